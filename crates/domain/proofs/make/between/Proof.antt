@@ -1,0 +1,64 @@
+-- `domain::make::between` meets its contract: the branches are those of the definition. Assumes nothing.
+use mathlib.Core.Path.{_≡_, sym, _∙_}
+use mathlib.Core.Bool.{Bool, true, false}
+use lib.IntN.{ℤ}
+use mir.Syntax.{w32}
+use mir.Val.{SFits, toZ, ofZ}
+use Rattle.domain.proofs.Signed.{read}
+use borrow.Author.Tests.{not-true, not-false}
+use Rattle.domain.specs.Calls.{betweenOf, narrow, filled}
+use borrow.Author.Needs.{needs}
+use Rattle.domain.proofs.make.between.Statement.{statement}
+use Rattle.domain.proofs.make.between.Tie as tie
+
+-- what was tested of the bits is so of the bounds
+near : (lo hi : ℤ) (r : Bool) → SFits w32 lo → SFits w32 hi → r ≡ narrow (toZ w32 (ofZ w32 lo)) (toZ w32 (ofZ w32 hi)) → r ≡ narrow lo hi
+near lo hi r f g e = e ∙ (λ i. narrow (read lo f i) (read hi g i))
+
+is-narrow-requires : tie.Need-is-narrow-requires
+is-narrow-requires c κs = search needs
+
+new-invalid-requires : tie.Need-new-invalid-requires
+new-invalid-requires c κs = search needs
+
+returns : tie.Need-returns
+unfolding betweenOf
+returns c =
+    let a = c .before .before .before .args in
+    let e : narrow (a .min) (a .max) ≡ false = sym (near (a .min) (a .max) (c .before .before .is-narrow .result) (search needs) (search needs) (c .before .before .is-narrow .ensures)) ∙ not-true (c .before .before .is-narrow .result) (c .before .if1 .taken) in
+    rw e (c .new-invalid .ensures)
+
+full-requires : tie.Need-full-requires
+full-requires c κs =
+    let a = c .before .before .before .args in
+    let e : narrow (a .min) (a .max) ≡ true = sym (near (a .min) (a .max) (c .before .before .is-narrow .result) (search needs) (search needs) (c .before .before .is-narrow .ensures)) ∙ not-false (c .before .before .is-narrow .result) (c .before .if1 .left) in
+    (λ i. narrow (read (a .min) (search needs) i) (read (a .max) (search needs) i)) ∙ e
+
+returns-2 : tie.Need-returns-2
+unfolding betweenOf
+returns-2 c =
+    let a = c .before .before .before .before .args in
+    let e : narrow (a .min) (a .max) ≡ true = sym (near (a .min) (a .max) (c .before .before .before .is-narrow .result) (search needs) (search needs) (c .before .before .before .is-narrow .ensures)) ∙ not-false (c .before .before .before .is-narrow .result) (c .before .before .if1 .left) in
+    rw (e, c .before .if2 .taken) (c .full .ensures ∙ (λ i. filled true (read (a .min) (search needs) i) (read (a .max) (search needs) i)))
+
+bare-requires : tie.Need-bare-requires
+bare-requires c κs = search needs
+
+returns-3 : tie.Need-returns-3
+unfolding betweenOf
+returns-3 c =
+    let a = c .before .before .before .before .args in
+    let e : narrow (a .min) (a .max) ≡ true = sym (near (a .min) (a .max) (c .before .before .before .is-narrow .result) (search needs) (search needs) (c .before .before .before .is-narrow .ensures)) ∙ not-false (c .before .before .before .is-narrow .result) (c .before .before .if1 .left) in
+    rw (e, c .before .if2 .left) (c .bare .ensures ∙ (λ i. filled false (read (a .min) (search needs) i) (read (a .max) (search needs) i)))
+
+pub between-spec : {M : Type 1} → statement M
+between-spec =
+    tie.close
+    (tie.spec
+    is-narrow-requires
+    new-invalid-requires
+    returns
+    full-requires
+    returns-2
+    bare-requires
+    returns-3)

@@ -1,0 +1,31 @@
+-- `mask::without` meets its contract: one word changes. Says nothing of how many words there are. Assumes nothing.
+use borrow.Author.Needs.{needs}
+use mathlib.Core.Path.{ap, _∙_}
+use Prim.Native.Nat.{ℕ, _-_, _*_, _/_, _%_, _^_}
+use native.Mathlib.Omega.{arith}
+use lib.ListN.{set}
+use lib.Bits.{bitAnd}
+use Rattle.mask.specs.Val.{val, wordsOf}
+use Rattle.mask.specs.Words.{valueOf, without-word}
+use Rattle.mask.proofs.without.Statement.{statement}
+use Rattle.mask.proofs.without.Tie as tie
+
+word-requires : tie.Need-word-requires
+word-requires c κs = search needs
+
+shl-set-word : tie.Need-shl-set-word
+shl-set-word c = search needs
+
+set-word-requires : tie.Need-set-word-requires
+set-word-requires c κs = search needs
+
+returns : tie.Need-returns
+unfolding val
+returns c =
+    let a = c .before .before .args in
+    ap valueOf (c .set-word .ensures)
+    ∙ ap (λ (w : ℕ). valueOf (set (wordsOf (a .m)) (a .k / 64) (bitAnd w ((2 ^ 64 - 1) - (1 * 2 ^ (a .k % 64)) % 2 ^ 64)))) (c .before .word .ensures)
+    ∙ without-word (wordsOf (a .m)) (a .k / 64) (a .k % 64) (a .k) (omega arith) (omega arith) (omega arith) (search needs)
+
+pub without-spec : {M : Type 1} → statement M
+without-spec = tie.close (tie.spec word-requires shl-set-word set-word-requires returns)

@@ -1,0 +1,5 @@
+pub mod Tests
+pub mod Bit
+pub mod Words
+pub mod Val
+pub mod Sets

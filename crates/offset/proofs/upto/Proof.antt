@@ -1,0 +1,25 @@
+-- `offset::upto` meets its contract: what stands at the threshold or below it stands below the next offset. Assumes nothing.
+use borrow.Author.Needs.{needs}
+use mathlib.Core.Path.{ap, _∙_}
+use lib.Dec.{lit≤}
+use Rattle.offset.specs.Places.{cutOf}
+use Rattle.offset.specs.Wide.{more-fits, more-is}
+use Rattle.offset.proofs.upto.Statement.{statement}
+use Rattle.offset.proofs.upto.Tie as tie
+
+gap-requires : tie.Need-gap-requires
+gap-requires c κs = search needs
+
+add-cut : tie.Need-add-cut
+add-cut c = more-fits (c .gap .ensures) (c .before .fits .t) (c .before .fits .min) (lit≤ tt)
+
+cut-requires : tie.Need-cut-requires
+cut-requires c κs = search needs
+
+returns : tie.Need-returns
+returns c =
+    let s = c .before .before in
+    c .cut .ensures ∙ ap (cutOf (s .args .n)) (more-is (c .before .gap .ensures) (s .fits .t) (s .fits .min) {k = 1} (lit≤ tt))
+
+pub upto-spec : {M : Type 1} → statement M
+upto-spec = tie.close (tie.spec gap-requires add-cut cut-requires returns)

@@ -1,0 +1,70 @@
+// Where a chute stands in a universe of i32 values, counted from the universe's smallest. The differences are taken in i64,
+// so that none wraps, also from one end of i32 to the other.
+ghost use mathlib.Core.Path.{_≡_};
+ghost use lib.IntN.{pos, _+ℤ_, _-ℤ_};
+ghost use mir.Syntax.{w32};
+ghost use mir.Val.{SFits};
+ghost use Rattle.offset.specs.Places.{placeOf, cutOf, spanOf};
+
+// How far a is above b.
+fn gap(a: i32, b: i32) -> i64
+    ensures { λ r. ⌜ r ≡ a -ℤ b ⌝ }
+{
+    (a as i64) - (b as i64)
+}
+
+// How many values stand from min to max: none where max comes before min.
+pub fn span(min: i32, max: i32) -> usize
+    ensures { λ r. ⌜ r ≡ spanOf min max ⌝ }
+{
+    let w = gap(max, min) + 1;
+    if w < 0 {
+        return 0;
+    }
+    w as usize
+}
+
+// The offset of v in a universe of n values from min on; n where v is outside.
+pub fn place(v: i32, min: i32, n: usize) -> usize
+    ensures { λ r. ⌜ r ≡ placeOf n (v -ℤ min) ⌝ }
+{
+    let d = gap(v, min);
+    if d < 0 {
+        return n;
+    }
+    let o = d as usize;
+    if o < n { o } else { n }
+}
+
+// How many of n offsets stand below the offset at, which may lie on either side of them.
+fn cut(at: i64, n: usize) -> usize
+    ensures { λ r. ⌜ r ≡ cutOf n at ⌝ }
+{
+    if at < 0 {
+        return 0;
+    }
+    let o = at as usize;
+    if o < n { o } else { n }
+}
+
+// How many of the n offsets from min on stand below t.
+pub fn below(t: i32, min: i32, n: usize) -> usize
+    ensures { λ r. ⌜ r ≡ cutOf n (t -ℤ min) ⌝ }
+{
+    cut(gap(t, min), n)
+}
+
+// How many of the n offsets from min on stand at t or below it.
+pub fn upto(t: i32, min: i32, n: usize) -> usize
+    ensures { λ r. ⌜ r ≡ cutOf n ((t -ℤ min) +ℤ pos 1) ⌝ }
+{
+    cut(gap(t, min) + 1, n)
+}
+
+// The value at the offset k.
+pub fn value(min: i32, k: usize) -> i32
+    requires { ⌜ SFits w32 (min +ℤ pos k) ⌝ }
+    ensures { λ r. ⌜ r ≡ min +ℤ pos k ⌝ }
+{
+    ((min as i64) + (k as i64)) as i32
+}
