@@ -4,3 +4,4 @@ pub mod Signed
 pub mod Places
 pub mod Numbers
 pub mod Ends
+pub mod Theorems

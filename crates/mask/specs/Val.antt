@@ -26,10 +26,6 @@ val m = valueOf (wordsOf m)
 abbrev pub Fit : Mask → Type 0
 Fit m = Words (wordsOf m)
 
-pub val-lt : (m : Mask) → Fit m → val m < 2 ^ offsets
-unfolding val
-val-lt m h = value-lt (wordsOf m) h
-
 -- the mask whose words are the number's digits
 unfoldable pub maskOf : ℕ → Mask
 maskOf n = ofWords (digits words n)
@@ -48,3 +44,7 @@ mask-val m h = ap ofWords (digits-value (wordsOf m) h)
 
 pub mask-eq : (m : Mask) (n : ℕ) → Fit m → val m ≡ n → m ≡ maskOf n
 mask-eq m n h e = sym (mask-val m h) ∙ ap maskOf e
+
+pub val-lt : (m : Mask) → Fit m → val m < 2 ^ offsets
+unfolding val
+val-lt m h = value-lt (wordsOf m) h

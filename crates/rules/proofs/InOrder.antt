@@ -1,5 +1,5 @@
 -- Chutes in order: ascending lists, and the smallest and the largest chute.
-use mathlib.Core.Path.{_≡_, refl, ap, _∙_}
+use mathlib.Core.Path.{_≡_, refl, sym, ap, ap₂, _∙_, subst}
 use mathlib.Core.Bool.{Bool, true, false, not, _||_, cond}
 use mathlib.Core.List.{[], _∷_}
 use mathlib.Core.Logic.{⊎-elim}
@@ -8,7 +8,7 @@ use native.Mathlib.Omega.{arith}
 use lib.Dec.{T, leb→le, le→leb, ltb→lt, not-T}
 use lib.IntN.{ℤ, pos, negsuc}
 use lib.Signed.{ltZ, leZ, ltZ-no, ltZ-yes, leZ-yes, <ℤ-≤ℤ-trans, <ℤ-irrefl}
-use Rattle.rules.specs.Sets.{Chutes, same, has, keep, insert, ascending, Ascending, smallest, largest, Different}
+use Rattle.rules.specs.Sets.{Chutes, same, has, keep, insert, ascending, Ascending, smallest, largest, Different, Within}
 use Rattle.rules.proofs.Tests.{or-cases, is-true, true-is, on-cond}
 use Rattle.rules.proofs.SetLaws.{same→eq, same-refl, has-cons, has-head, has-tail, keep-within}
 
@@ -172,3 +172,19 @@ largest-is x s m h l = most-antisym (largest x s) m (l (largest x s) (largest-ha
 pub smallest-first : (x : ℤ) (s : Chutes) → Ascending (x ∷ s) → smallest x s ≡ x
 smallest-first x s a =
     smallest-is x s x (has-head x s) (λ z h. ⊎-elim (λ q. rw q (most-refl x)) (λ k. less-le x z (a .0 z k)) (has-cons z x s h))
+
+-- ascending chutes are given by which they are
+pub ascending-unique : (s t : Chutes) → Ascending s → Ascending t → Within s t → Within t s → s ≡ t
+ascending-unique [] [] a b f g = refl
+ascending-unique [] (y ∷ t) a b f g = absurd (g y (has-head y t))
+ascending-unique (x ∷ s) [] a b f g = absurd (f x (has-head x s))
+ascending-unique (x ∷ s) (y ∷ t) a b f g = ap₂ {C = Chutes} (λ z r. z ∷ r) e (ascending-unique s t (a .1) (b .1) (later x y s t e (a .0) f) (later y x t s (sym e) (b .0) g))
+  where
+    clash : T (ltZ y x) → T (ltZ x y) → x ≡ y
+    clash p q = absurd (less-irrefl x (less-trans x y x q p))
+
+    e : x ≡ y
+    e = ⊎-elim (λ q. q) (λ m. ⊎-elim sym (λ n. clash (b .0 x m) (a .0 y n)) (has-cons y x s (g y (has-head y t)))) (has-cons x y t (f x (has-head x s)))
+
+    later : (x y : ℤ) (s t : Chutes) → x ≡ y → ((z : ℤ) → T (has z s) → T (ltZ x z)) → Within (x ∷ s) (y ∷ t) → Within s t
+    later x y s t p l h z m = ⊎-elim (λ q. absurd (less-irrefl x (subst (λ (u : ℤ). T (ltZ x u)) (q ∙ sym p) (l z m)))) (λ k. k) (has-cons z y t (h z (has-tail z x s m)))
