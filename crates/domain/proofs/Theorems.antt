@@ -1,16 +1,16 @@
 -- What the calls do to the set that a domain holds, in the words of the rules. Assumes nothing.
 use mathlib.Core.Path.{_≡_, refl, sym, ap, _∙_, subst}
-use mathlib.Core.Bool.{Bool, true, false, not, _&&_, _||_, cond}
+use mathlib.Core.Bool.{Bool, true, false, not, _||_, cond}
 use mathlib.Core.List.{List, [], _∷_, map}
 use mathlib.Core.Logic.{⊎-elim}
 use Prim.Native.Nat.{ℕ, zero, suc, _+_, _-_, _^_, _≤_, _<_}
 use native.Mathlib.Nat.{lt-of-lt-of-le}
 use native.Mathlib.Omega.{arith}
 use lib.Pow.{pow-mono, pow-pos}
-use lib.Dec.{T, eqb, leb, ltb}
+use lib.Dec.{T, leb}
 use lib.IntN.{ℤ, pos, _+ℤ_, _-ℤ_}
 use lib.Signed.{ltZ}
-use borrow.Author.Tests.{eqb-true, eq-eqb, ne-eqb, lt-ltb, leb-true}
+use borrow.Author.Tests.{ne-eqb, lt-ltb, leb-true}
 use Rattle.mask.specs.Val.{val, offsets, maskOf, Fit, val-mask, mask-val}
 use Rattle.mask.specs.Sets.{In, members, members-ascend, members-none, Ascends, fits-in, same-set}
 use Rattle.mask.specs.declared.Mask.{Mask}
@@ -18,15 +18,16 @@ use Rattle.offset.specs.Places.{spanOf, natural}
 use Rattle.offset.specs.Universe.{value-lt, span-le, le-not-lt}
 use Rattle.rules.specs.Sets.{Chutes, same, has, keep, Ascending, Within}
 use Rattle.rules.specs.Board.{Kind, remove, leaves}
-use Rattle.rules.proofs.Tests.{and-left, and-both, is-true, is-false, true-is}
+use Rattle.rules.proofs.Tests.{is-false, true-is}
 use Rattle.rules.proofs.SetLaws.{has-cons, keep-within}
 use Rattle.rules.proofs.InOrder.{ascending-keep, ascending-unique, less-irrefl, less-trans}
 use Rattle.rules.specs.declared.Value.{Value}
-use Rattle.domain.specs.Set.{valuesOf, setOf, stretch, range, width, universe, pair, well, bitsOf, holding}
+use Rattle.domain.specs.Set.{valuesOf, setOf, stretch, range, width, universe, well, bitsOf, holding}
 use Rattle.domain.specs.Calls.{invalid, filled, narrow, betweenOf, newOf, including, insertOf, removeOf, removeAllOf, closeOf}
 use Rattle.domain.specs.declared.BitDomain.{BitDomain}
 use Rattle.domain.proofs.Laws.{From, in-values, values-in, values-offset, stretch-offset, in-range, range-in, from-range, bits-in, in-bits}
 use Rattle.domain.proofs.Places.{well-width, well-in}
+use Rattle.domain.proofs.Holding.{well-holding}
 
 -- ---- the values of a mask and of a universe ascend
 
@@ -89,34 +90,13 @@ module _ (lo : ℤ) (n : ℕ) (s : Chutes) (inside : Within s (range lo n)) wher
 
 -- ---- a domain made to hold some of its universe is well formed, and holds just that
 
-well-mask : (d : BitDomain) (m : Mask) → well d ≡ true → val m < 2 ^ width d → well (record { mask = m; min = d .min; max = d .max }) ≡ true
-unfolding well
-well-mask d m w h = go (eqb (width d) 0) refl w
-  where
-    none : width d ≡ 0 → val m ≡ 0
-    none e = let z : val m < 2 ^ 0 = subst (λ (n : ℕ). val m < 2 ^ n) e h in omega arith
-
-    go : (b : Bool) → eqb (width d) 0 ≡ b → cond b (pair (d .min) (d .max) && eqb (val (d .mask)) 0) (leb (width d) offsets && ltb (val (d .mask)) (2 ^ width d)) ≡ true → cond b (pair (d .min) (d .max) && eqb (val m) 0) (leb (width d) offsets && ltb (val m) (2 ^ width d)) ≡ true
-    go true e t =
-        is-true (pair (d .min) (d .max) && eqb (val m) 0)
-        (and-both (pair (d .min) (d .max)) (eqb (val m) 0) (and-left (pair (d .min) (d .max)) (eqb (val (d .mask)) 0) (true-is t)) (true-is (eq-eqb (val m) 0 (none (eqb-true (width d) 0 e)))))
-    go false e t =
-        is-true (leb (width d) offsets && ltb (val m) (2 ^ width d))
-        (and-both (leb (width d) offsets) (ltb (val m) (2 ^ width d)) (and-left (leb (width d) offsets) (ltb (val (d .mask)) (2 ^ width d)) (true-is t)) (true-is (lt-ltb (val m) (2 ^ width d) h)))
-
 module _ (d : BitDomain) (w : well d ≡ true) where
   pub set-within : Within (setOf d) (universe d)
   set-within x h = let r = values-offset (d .min) (d .mask) x h in rw (r .1) (in-range (d .min) (width d) (r .0) (well-in d w (r .0) (r .2)))
 
-  -- a domain is never changed by a mask that fits, other than in what it holds
-  pub masked-well : (m : Mask) → val m < 2 ^ width d → well (record { mask = m; min = d .min; max = d .max }) ≡ true
-  masked-well m h = well-mask d m w h
-
   module _ (s : Chutes) (inside : Within s (universe d)) where
     pub holding-well : well (holding d s) ≡ true
-    holding-well =
-        well-mask d (maskOf (bitsOf (d .min) s)) w
-        (rw (val-bits (d .min) (width d) s inside (well-width d w)) (bits-below (d .min) (width d) s inside))
+    holding-well = well-holding d w s (bits-below (d .min) (width d) s inside)
 
     pub holding-set : Ascending s → setOf (holding d s) ≡ s
     holding-set a = values-bits (d .min) (width d) s inside (well-width d w) a

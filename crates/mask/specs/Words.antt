@@ -2,10 +2,10 @@
 use mathlib.Core.Path.{_≡_, refl, sym, ap, ap₂, _∙_, subst}
 use mathlib.Core.List.{List, [], _∷_, map}
 use Prim.Native.Nat.{ℕ, zero, suc, _+_, _-_, _*_, _/_, _%_, _^_, _≤_, _<_, suc-le-suc, min}
-use native.Mathlib.Nat.{zero-add, add-zero, add-comm, zero-div, not-suc-le-zero, le-of-suc-le-suc, lt-of-lt-of-le, min-eq-left, min-eq-right, lt-trans, lt-of-not-le, add-sub-of-le, one-mul, mod-eq-of-lt, mod-lt, div-eq-of-lt, div-lt-iff-lt-mul, zero-lt-suc, sub-zero}
+use native.Mathlib.Nat.{zero-add, add-zero, add-comm, zero-div, not-suc-le-zero, le-of-suc-le-suc, min-eq-left, min-eq-right, lt-trans, lt-of-not-le, add-sub-of-le, one-mul, mod-eq-of-lt, mod-lt, div-eq-of-lt, div-lt-iff-lt-mul, zero-lt-suc}
 use native.Mathlib.Decide.{decLe}
 use native.Mathlib.Omega.{arith}
-use lib.ListN.{length, getD, set}
+use lib.ListN.{length, getD, set, drop}
 use mathlib.Core.Logic.{_↔_}
 use lib.Dec.{lit<, eqb, ltb}
 use lib.Arith.{digits-lt, lt-one}
@@ -281,44 +281,30 @@ none-words w ws =
     eqb-iff (anyOf w ws) 0 (valueOf (w ∷ ws)) 0 (λ e. zeros (w ∷ ws) (zeros-at (w ∷ ws) (any-zeros w ws .0 e)))
     (λ e. any-zeros w ws .1 (value-zeros (w ∷ ws) e))
 
--- what stands at the offset k and above it, in words that hold the offsets from `from` on
-abbrev pub overs : ℕ → ℕ → List ℕ → List ℕ
-overs k from [] = []
-overs k from (w ∷ ws) = w / 2 ^ (k - from) ∷ overs k (from + 64) ws
-
 div-none : (n d : ℕ) → (n / 2 ^ d ≡ 0) ↔ (n < 2 ^ d)
 div-none n d = (λ e. subst (λ (x : ℕ). n < x) (one-mul (2 ^ d)) (div-lt-iff-lt-mul (pow-pos d) .0 (omega arith)), λ h. div-eq-of-lt h)
 
--- the number is below 2 ^ d just where its first word is and the rest is below 2 ^ (d - 64)
-below-split : (v w d e : ℕ) → w < 2 ^ 64 → d - 64 ≡ e → (v * 2 ^ 64 + w < 2 ^ d) ↔ ((w < 2 ^ d) × (v < 2 ^ e))
-below-split v w d e hw q = go (decLe 64 d)
-  where
-    go : Dec (64 ≤ d) → (v * 2 ^ 64 + w < 2 ^ d) ↔ ((w < 2 ^ d) × (v < 2 ^ e))
-    go (yes l) =
-        let s : e + 64 ≡ d = omega arith in
-        let p : 2 ^ d ≡ 2 ^ e * 2 ^ 64 = ap (λ (x : ℕ). 2 ^ x) (sym s) ∙ pow-add 2 e 64 in
-        (λ h. (lt-of-lt-of-le hw (pow-mono l), omega arith), λ h. omega arith)
-    go (no f) =
-        let z : e ≡ 0 = omega arith in
-        let p : 2 ^ e ≡ 1 = ap (λ (x : ℕ). 2 ^ x) z in
-        let under : d ≤ 64 = omega arith in
-        let l : 2 ^ d ≤ 2 ^ 64 = pow-mono under in
-        (λ h. omega arith, λ h. omega arith)
+-- the number is below 2 ^ (i * 64 + d) just where word i has nothing at its bit d and above it, and every word past i is 0
+below-words : (ws : List ℕ) (i d : ℕ) → d ≤ 64 → Words ws → Zeros (getD ws i 0 / 2 ^ d ∷ drop (suc i) ws) ↔ (valueOf ws < 2 ^ (i * 64 + d))
+below-words [] i d l h = (λ z. pow-pos (i * 64 + d), λ p. (zero-div (2 ^ d), tt))
+below-words (w ∷ ws) zero d l h =
+    let small : 2 ^ d ≤ 2 ^ 64 = pow-mono l in
+    let none = div-none w d in
+    let e : 2 ^ (0 * 64 + d) ≡ 2 ^ d = ap (λ (x : ℕ). 2 ^ x) (zero-add d) in
+    (λ z. omega (arith, none .0 (z .0), zeros ws (zeros-at ws (z .1))), λ p. (none .1 (omega arith), value-zeros ws (omega arith)))
+below-words (w ∷ ws) (suc i) d l h =
+    let rest = below-words ws i d l (h .1) in
+    let e : 2 ^ (suc i * 64 + d) ≡ 2 ^ (i * 64 + d) * 2 ^ 64 = ap (λ (x : ℕ). 2 ^ x) (omega arith) ∙ pow-add 2 (i * 64 + d) 64 in
+    (λ z. omega (arith, rest .0 z), λ p. rest .1 (omega arith))
 
-pub overs-below : (ws : List ℕ) (k from : ℕ) → Words ws → Zeros (overs k from ws) ↔ (valueOf ws < 2 ^ (k - from))
-overs-below [] k from h = (λ z. pow-pos (k - from), λ l. tt)
-overs-below (w ∷ ws) k from h =
-    let s = below-split (valueOf ws) w (k - from) (k - (from + 64)) (h .0) (omega arith) in
-    let ih = overs-below ws k (from + 64) (h .1) in
-    let d = div-none w (k - from) in
-    (λ z. s .1 (d .0 (z .0), ih .0 (z .1)), λ l. (d .1 (s .0 l .0), ih .1 (s .0 l .1)))
-
-pub fits-words : (w : ℕ) (ws : List ℕ) (k : ℕ) → Words (w ∷ ws) → eqb (anyOf (w / 2 ^ (k - 0)) (overs k 64 ws)) 0 ≡ ltb (valueOf (w ∷ ws)) (2 ^ k)
-fits-words w ws k h =
-    let b = overs-below (w ∷ ws) k 0 h in
-    eqb-ltb-iff (anyOf (w / 2 ^ (k - 0)) (overs k 64 ws)) 0 (valueOf (w ∷ ws)) (2 ^ k)
-    (λ e. subst (λ (x : ℕ). valueOf (w ∷ ws) < 2 ^ x) (sub-zero k) (b .0 (any-zeros (w / 2 ^ (k - 0)) (overs k 64 ws) .0 e)))
-    (λ l. any-zeros (w / 2 ^ (k - 0)) (overs k 64 ws) .1 (b .1 (subst (λ (x : ℕ). valueOf (w ∷ ws) < 2 ^ x) (sym (sub-zero k)) l)))
+-- the same, as the code has it: `(w >> j) >> 1 | v | .. == 0`, where d is j + 1
+pub fits-words : (ws : List ℕ) (i d k : ℕ) → i * 64 + d ≡ k → d ≤ 64 → Words ws
+    → eqb (anyOf (getD ws i 0 / 2 ^ d) (drop (suc i) ws)) 0 ≡ ltb (valueOf ws) (2 ^ k)
+fits-words ws i d k e l h =
+    let any = any-zeros (getD ws i 0 / 2 ^ d) (drop (suc i) ws) in
+    let below = below-words ws i d l h in
+    eqb-ltb-iff (anyOf (getD ws i 0 / 2 ^ d) (drop (suc i) ws)) 0 (valueOf ws) (2 ^ (i * 64 + d)) (λ z. below .0 (any .0 z)) (λ p. any .1 (below .1 p))
+    ∙ ap (λ (x : ℕ). ltb (valueOf ws) (2 ^ x)) e
 
 pub only-pos : (w : ℕ) (ws : List ℕ) → Zeros ws → 0 < valueOf (w ∷ ws) → 0 < w
 only-pos w ws z p = word-pos w ws (zeros ws (zeros-at ws z)) p

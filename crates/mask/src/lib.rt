@@ -5,7 +5,7 @@ ghost use Prim.Native.Nat.{ℕ, _+_, _-_, _/_, _^_, _<_, _≤_, min};
 ghost use lib.Bits.{bitAnd, bitOr};
 ghost use lib.Count.{ones};
 ghost use lib.Dec.{eqb, ltb};
-ghost use lib.ListN.{getD, set, length};
+ghost use lib.ListN.{getD, set};
 ghost use Rattle.mask.specs.Bit.{bit, bitMinus, Lowest, Highest};
 ghost use Rattle.mask.specs.Words.{FirstWord, LastWord};
 ghost use Rattle.mask.specs.Val.{val, offsets, words, wordsOf};
@@ -88,22 +88,29 @@ pub fn within(m: Mask, n: Mask) -> bool
     is_none(minus(m, n))
 }
 
-// What the word w, at the offsets from..from+64, has at the offset k and above it.
-fn over(w: u64, k: usize, from: usize) -> u64
-    ensures { λ r. ⌜ r ≡ w / 2 ^ (k - from) ⌝ }
+// What the word w has above its bit j. It is shifted twice, since a shift by 64 is not allowed.
+fn above(w: u64, j: usize) -> u64
+    requires { ⌜ j < 64 ⌝ }
+    ensures { λ r. ⌜ r ≡ w / 2 ^ (j + 1) ⌝ }
 {
-    if k <= from {
-        return w;
-    }
-    let d = k - from;
-    if d < 64 { w >> d } else { 0 }
+    (w >> j) >> 1
 }
 
-// Is every member below k?
+// Is every member below k, and so none above n?
 pub fn fits(m: Mask, k: usize) -> bool
     ensures { λ r. ⌜ r ≡ ltb (val m) (2 ^ k) ⌝ }
 {
-    over(m.lo, k, 0) | over(m.hi, k, 64) == 0
+    if k == 0 {
+        return is_none(m);
+    }
+    let n = k - 1;
+    if n < 64 {
+        return above(m.lo, n) | m.hi == 0;
+    }
+    if n < OFFSETS {
+        return above(m.hi, n - 64) == 0;
+    }
+    true
 }
 
 // The word at place i.

@@ -1,8 +1,9 @@
 -- Laws of tests: `T b` is the fact that the test b holds.
-use mathlib.Core.Path.{_≡_, refl}
-use mathlib.Core.Bool.{Bool, true, false, _&&_, _||_, cond}
+use mathlib.Core.Path.{_≡_, refl, sym, _∙_}
+use mathlib.Core.Bool.{Bool, true, false, not, _&&_, _||_, cond}
 use mathlib.Core.Logic.{_⊎_, inl, inr}
 use lib.Dec.{T}
+use borrow.Author.Tests.{not-true, not-false}
 
 pub or-cases : (a b : Bool) → T (a || b) → T a ⊎ T b
 or-cases true b t = inl tt
@@ -59,3 +60,11 @@ true-is e = rw e tt
 pub on-cond : {A : Type 0} (P : A → Type 0) (b : Bool) {x y : A} → (T b → P x) → P y → P (cond b x y)
 on-cond P true f g = f tt
 on-cond P false f g = g
+
+-- what a branch on a callee's answer says of the test that the callee makes
+module _ {r t : Bool} (e : r ≡ t) where
+  pub fails : not r ≡ true → t ≡ false
+  fails q = sym e ∙ not-true r q
+
+  pub passes : not r ≡ false → t ≡ true
+  passes q = sym e ∙ not-false r q

@@ -1,6 +1,6 @@
 -- `domain::ask::is_empty` meets its contract: there is no value where no bit is set. Assumes nothing.
 use Rattle.domain.specs.Calls.{isEmptyOf}
-use Rattle.domain.proofs.Shells.{broken, sound}
+use Rattle.rules.proofs.Tests.{fails, passes}
 use Rattle.domain.proofs.Ends.{none-test}
 use borrow.Author.Needs.{needs}
 use Rattle.domain.proofs.ask.is_empty.Statement.{statement}
@@ -11,14 +11,14 @@ is-well-requires c κs = search needs
 
 returns : tie.Need-returns
 unfolding isEmptyOf
-returns c = rw (broken (c .before .before .args .d) (c .before .is-well .result) (c .before .is-well .ensures) (c .if1 .taken))
+returns c = rw (fails (c .before .is-well .ensures) (c .if1 .taken))
 
 is-none-requires : tie.Need-is-none-requires
 is-none-requires c κs = search needs
 
 returns-2 : tie.Need-returns-2
 unfolding isEmptyOf
-returns-2 c = let d = c .before .before .before .args .d in rw (sound (c .before .before .before .args .d) (c .before .before .is-well .result) (c .before .before .is-well .ensures) (c .before .if1 .left), none-test (d .min) (d .mask), c .is-none .ensures)
+returns-2 c = let d = c .before .before .before .args .d in rw (passes (c .before .before .is-well .ensures) (c .before .if1 .left), none-test (d .min) (d .mask), c .is-none .ensures)
 
 pub is-empty-spec : {M : Type 1} → statement M
 is-empty-spec = tie.close (tie.spec is-well-requires returns is-none-requires returns-2)

@@ -1,7 +1,7 @@
 -- `domain::ask::min` meets its contract: the first of the values, where there is one. Assumes nothing.
 use mathlib.Core.Path.{_≡_, sym, _∙_}
 use Rattle.domain.specs.Calls.{minOf}
-use Rattle.domain.proofs.Shells.{broken, sound}
+use Rattle.rules.proofs.Tests.{fails, passes}
 use native.Mathlib.Omega.{arith}
 use borrow.Author.Tests.{eqb-true, eqb-false}
 use Rattle.mask.specs.Val.{val}
@@ -15,24 +15,24 @@ is-well-requires c κs = search needs
 
 returns : tie.Need-returns
 unfolding minOf
-returns c = rw (broken (c .before .before .args .d) (c .before .is-well .result) (c .before .is-well .ensures) (c .if1 .taken))
+returns c = rw (fails (c .before .is-well .ensures) (c .if1 .taken))
 
 is-none-requires : tie.Need-is-none-requires
 is-none-requires c κs = search needs
 
 returns-2 : tie.Need-returns-2
 unfolding minOf
-returns-2 c = let d = c .before .before .before .before .args .d in rw (sound (c .before .before .before .before .args .d) (c .before .before .before .is-well .result) (c .before .before .before .is-well .ensures) (c .before .before .if1 .left), none-values (d .min) (d .mask) (eqb-true (val (d .mask)) 0 (sym (c .before .is-none .ensures) ∙ c .if2 .taken)))
+returns-2 c = let d = c .before .before .before .before .args .d in rw (passes (c .before .before .before .is-well .ensures) (c .before .before .if1 .left), none-values (d .min) (d .mask) (eqb-true (val (d .mask)) 0 (sym (c .before .is-none .ensures) ∙ c .if2 .taken)))
 
 smallest-requires : tie.Need-smallest-requires
 smallest-requires c κs =
     let d = c .before .before .before .before .args .d in
     let z : val (d .mask) ≡ 0 → ⊥ = eqb-false (val (d .mask)) 0 (sym (c .before .is-none .ensures) ∙ c .if2 .left) in
-    (sound (c .before .before .before .before .args .d) (c .before .before .before .is-well .result) (c .before .before .before .is-well .ensures) (c .before .before .if1 .left), omega arith)
+    (passes (c .before .before .before .is-well .ensures) (c .before .before .if1 .left), omega arith)
 
 returns-3 : tie.Need-returns-3
 unfolding minOf
-returns-3 c = rw (sound (c .before .before .before .before .before .args .d) (c .before .before .before .before .is-well .result) (c .before .before .before .before .is-well .ensures) (c .before .before .before .if1 .left)) (c .smallest .ensures)
+returns-3 c = rw (passes (c .before .before .before .before .is-well .ensures) (c .before .before .before .if1 .left)) (c .smallest .ensures)
 
 pub min-spec : {M : Type 1} → statement M
 min-spec =

@@ -1,6 +1,6 @@
 -- `domain::change::insert` meets its contract: `inner` answers for a well-formed domain. Assumes nothing.
 use Rattle.domain.specs.Calls.{insertOf}
-use Rattle.domain.proofs.Shells.{broken, sound}
+use Rattle.rules.proofs.Tests.{fails, passes}
 use borrow.Author.Needs.{needs}
 use Rattle.domain.proofs.change.insert.Statement.{statement}
 use Rattle.domain.proofs.change.insert.Tie as tie
@@ -10,17 +10,17 @@ is-well-requires c κs = search needs
 
 returns : tie.Need-returns
 unfolding insertOf
-returns c = rw (broken (c .before .before .args .d) (c .before .is-well .result) (c .before .is-well .ensures) (c .if1 .taken))
+returns c = rw (fails (c .before .is-well .ensures) (c .if1 .taken))
 
 including-requires : tie.Need-including-requires
-including-requires c κs = sound (c .before .before .args .d) (c .before .is-well .result) (c .before .is-well .ensures) (c .if1 .left)
+including-requires c κs = passes (c .before .is-well .ensures) (c .if1 .left)
 
 admits-requires : tie.Need-admits-requires
-admits-requires c κs = sound (c .before .before .before .args .d) (c .before .before .is-well .result) (c .before .before .is-well .ensures) (c .before .if1 .left)
+admits-requires c κs = passes (c .before .before .is-well .ensures) (c .before .if1 .left)
 
 returns-2 : tie.Need-returns-2
 unfolding insertOf
-returns-2 c = rw (sound (c .before .before .before .before .args .d) (c .before .before .before .is-well .result) (c .before .before .before .is-well .ensures) (c .before .before .if1 .left), c .before .including .ensures, c .admits .ensures)
+returns-2 c = rw (passes (c .before .before .before .is-well .ensures) (c .before .before .if1 .left), c .before .including .ensures, c .admits .ensures)
 
 pub insert-spec : {M : Type 1} → statement M
 insert-spec =

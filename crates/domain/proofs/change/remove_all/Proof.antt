@@ -1,6 +1,6 @@
 -- `domain::change::remove_all` meets its contract: `inner::emptied` answers for a well-formed domain. Assumes nothing.
 use Rattle.domain.specs.Calls.{removeAllOf}
-use Rattle.domain.proofs.Shells.{broken, sound}
+use Rattle.rules.proofs.Tests.{fails, passes}
 use borrow.Author.Needs.{needs}
 use Rattle.domain.proofs.change.remove_all.Statement.{statement}
 use Rattle.domain.proofs.change.remove_all.Tie as tie
@@ -10,14 +10,14 @@ is-well-requires c κs = search needs
 
 returns : tie.Need-returns
 unfolding removeAllOf
-returns c = rw (broken (c .before .before .args .d) (c .before .is-well .result) (c .before .is-well .ensures) (c .if1 .taken))
+returns c = rw (fails (c .before .is-well .ensures) (c .if1 .taken))
 
 emptied-requires : tie.Need-emptied-requires
 emptied-requires c κs = search needs
 
 returns-2 : tie.Need-returns-2
 unfolding removeAllOf
-returns-2 c = rw (sound (c .before .before .before .args .d) (c .before .before .is-well .result) (c .before .before .is-well .ensures) (c .before .if1 .left), c .emptied .ensures)
+returns-2 c = rw (passes (c .before .before .is-well .ensures) (c .before .if1 .left), c .emptied .ensures)
 
 pub remove-all-spec : {M : Type 1} → statement M
 remove-all-spec = tie.close (tie.spec is-well-requires returns emptied-requires returns-2)

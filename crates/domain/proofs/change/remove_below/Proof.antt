@@ -1,6 +1,6 @@
 -- `domain::change::remove_below` meets its contract: `inner::from` answers for a well-formed domain. Assumes nothing.
 use Rattle.domain.specs.Calls.{closeOf}
-use Rattle.domain.proofs.Shells.{broken, sound}
+use Rattle.rules.proofs.Tests.{fails, passes}
 use borrow.Author.Needs.{needs}
 use Rattle.domain.proofs.change.remove_below.Statement.{statement}
 use Rattle.domain.proofs.change.remove_below.Tie as tie
@@ -10,14 +10,14 @@ is-well-requires c κs = search needs
 
 returns : tie.Need-returns
 unfolding closeOf
-returns c = rw (broken (c .before .before .args .d) (c .before .is-well .result) (c .before .is-well .ensures) (c .if1 .taken))
+returns c = rw (fails (c .before .is-well .ensures) (c .if1 .taken))
 
 from-requires : tie.Need-from-requires
-from-requires c κs = sound (c .before .before .args .d) (c .before .is-well .result) (c .before .is-well .ensures) (c .if1 .left)
+from-requires c κs = passes (c .before .is-well .ensures) (c .if1 .left)
 
 returns-2 : tie.Need-returns-2
 unfolding closeOf
-returns-2 c = rw (sound (c .before .before .before .args .d) (c .before .before .is-well .result) (c .before .before .is-well .ensures) (c .before .if1 .left), c .from .ensures)
+returns-2 c = rw (passes (c .before .before .is-well .ensures) (c .before .if1 .left), c .from .ensures)
 
 pub remove-below-spec : {M : Type 1} → statement M
 remove-below-spec = tie.close (tie.spec is-well-requires returns from-requires returns-2)

@@ -1,0 +1,4 @@
+pub mod Masks
+pub mod Universes
+pub mod Theorems
+pub mod Examples
