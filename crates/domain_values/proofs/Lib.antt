@@ -1,0 +1,4 @@
+pub mod Every
+pub mod Walk
+pub mod Spread
+pub mod Theorems

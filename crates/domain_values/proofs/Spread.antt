@@ -1,0 +1,196 @@
+-- The smallest and the largest of some values, and the mask of the values over the universe from the one to the other. Assumes nothing.
+use mathlib.Core.Path.{_≡_, refl, sym, ap, _∙_}
+use mathlib.Core.Bool.{Bool, true, false, not, cond, _&&_}
+use mathlib.Core.List.{[], _∷_}
+use mathlib.Core.Logic.{_⊎_, inl, inr, ⊎-elim}
+use Prim.Native.Nat.{ℕ, zero, suc, _+_, _^_, _≤_, _<_}
+use native.Mathlib.Numerals.{add-one}
+use native.Mathlib.Omega.{arith}
+use lib.Bits.{bitOr, or-zero-r}
+use lib.Dec.{T, leb→le, le→leb}
+use lib.IntN.{ℤ, pos, negsuc, _+ℤ_, _-ℤ_}
+use lib.ListN.{length, getD, drop, drop-of-length-le}
+use lib.Seq.{drop-cons}
+use lib.Signed.{ltZ, leZ}
+use mir.Syntax.{w32}
+use mir.Val.{SFits, toZ, ofZ}
+use borrow.Author.Tests.{ltb-true}
+use Rattle.mask.specs.Bit.{bit-or, ext}
+use Rattle.mask.specs.Sets.{In}
+use Rattle.offset.specs.Places.{natural, placeOf, spanOf}
+use Rattle.offset.specs.Universe.{le-not-lt, le-span, place-range, place-value, diff-moved}
+use Rattle.rules.specs.Sets.{Chutes, has, keep}
+use Rattle.rules.proofs.SetLaws.{has-cons, has-head, has-tail}
+use Rattle.rules.proofs.Tests.{and-right, and-both, is-true, true-is}
+use Rattle.rules.specs.declared.Refusal.the-variants.{TooWide}
+use Rattle.domain.specs.Set.{bitsOf, range}
+use Rattle.domain.specs.Calls.{invalid, narrow}
+use Rattle.domain.specs.declared.BitDomain.{BitDomain}
+use Rattle.domain.specs.declared.Made.{Made}
+use Rattle.domain.specs.declared.Made.the-variants as made
+use Rattle.domain.proofs.Signed.{read}
+use Rattle.domain.proofs.Laws.{From, from-offset, bits-in, in-bits, range-bits}
+use Rattle.domain_values.specs.Calls.{first, firstOf, smallestOf, largestOf, within, among, nothing, spread, fromValuesOf, tryFromValuesOf}
+use Rattle.domain_values.proofs.Every.{every-at, every-of}
+
+-- ---- the first of some values, one value at a time: as a loop takes it, which reads values back from bits
+
+module _ (before : ℤ → ℤ → Bool) (l : Chutes) where
+  pub first-start : 0 < length l → SFits w32 (getD l 0 (pos 0)) → first before (toZ w32 (ofZ w32 (getD l 0 (pos 0)))) (drop 1 l) ≡ firstOf before l
+  first-start h f = ap (λ (z : ℤ). first before z (drop 1 l)) (read (getD l 0 (pos 0)) f) ∙ go l h
+    where
+      go : (l : Chutes) → 0 < length l → first before (getD l 0 (pos 0)) (drop 1 l) ≡ firstOf before l
+      go [] h = absurd (omega arith)
+      go (x ∷ l) h = refl
+
+  pub first-more : (b r : ℤ) (i : ℕ) → i < length l → SFits w32 (getD l i (pos 0)) → SFits w32 r
+      → r ≡ cond (before (toZ w32 (ofZ w32 (getD l i (pos 0)))) b) (toZ w32 (ofZ w32 (getD l i (pos 0)))) b
+      → first before (toZ w32 (ofZ w32 r)) (drop (i + 1) l) ≡ first before b (drop i l)
+  first-more b r i h f g e =
+      let x = getD l i (pos 0) in
+      ap (λ (z : ℤ). first before z (drop (i + 1) l)) (read r g ∙ e ∙ (λ j. cond (before (read x f j) b) (read x f j) b))
+      ∙ ap (λ (n : ℕ). first before (cond (before x b) x b) (drop n l)) (add-one i) ∙ ap (first before b) (sym (drop-cons l i (pos 0) h))
+
+  pub first-end : (b : ℤ) (i : ℕ) → length l ≤ i → first before b (drop i l) ≡ b
+  first-end b i h = ap (first before b) (drop-of-length-le l {i = i} h)
+
+-- an order, and the test by which one value stands before another
+record Order (before upto : ℤ → ℤ → Bool) : Type 0 where
+  itself : (a : ℤ) → T (upto a a)
+  trans : (a b c : ℤ) → T (upto a b) → T (upto b c) → T (upto a c)
+  yes : (a b : ℤ) → before a b ≡ true → T (upto a b)
+  no : (a b : ℤ) → before a b ≡ false → T (upto b a)
+
+-- the first stands before all others, or is one of them
+module _ {before upto : ℤ → ℤ → Bool} (o : Order before upto) where
+  first-upto : (x : ℤ) (s : Chutes) (y : ℤ) → T (has y (x ∷ s)) → T (upto (first before x s) y)
+  first-upto x [] y h = ⊎-elim (λ e. rw e (o .itself x)) (λ m. absurd m) (has-cons y x [] h)
+  first-upto x (z ∷ s) y h = go (before z x) refl (first-upto (cond (before z x) z x) s) (has-cons y x (z ∷ s) h)
+    where
+      go : (b : Bool) → before z x ≡ b → ((u : ℤ) → T (has u (cond b z x ∷ s)) → T (upto (first before (cond b z x) s) u)) → (y ≡ x) ⊎ T (has y (z ∷ s)) → T (upto (first before (cond b z x) s) y)
+      go true t f (inl e) = rw e (o .trans (first before z s) z x (f z (has-head z s)) (o .yes z x t))
+      go true t f (inr m) = f y m
+      go false t f (inl e) = rw e (f x (has-head x s))
+      go false t f (inr m) = ⊎-elim (λ e. rw e (o .trans (first before x s) x z (f x (has-head x s)) (o .no z x t))) (λ n. f y (has-tail y x s n)) (has-cons y z s m)
+
+-- and it is one of them
+pub first-in : (before : ℤ → ℤ → Bool) (x : ℤ) (s : Chutes) → T (has (first before x s) (x ∷ s))
+first-in before x [] = has-head x []
+first-in before x (z ∷ s) = go (before z x) (first-in before (cond (before z x) z x) s)
+  where
+    go : (b : Bool) → T (has (first before (cond b z x) s) (cond b z x ∷ s)) → T (has (first before (cond b z x) s) (x ∷ z ∷ s))
+    go true h = has-tail (first before z s) x (z ∷ s) h
+    go false h = ⊎-elim (λ e. rw e (has-head x (z ∷ s))) (λ m. has-tail (first before x s) x (z ∷ s) (has-tail (first before x s) z s m)) (has-cons (first before x s) x s h)
+
+-- ---- the order of ℤ
+
+le-same : (a : ℤ) → T (leZ a a)
+le-same (pos a) = le→leb a a (omega arith)
+le-same (negsuc a) = le→leb a a (omega arith)
+
+pub le-trans : (a b c : ℤ) → T (leZ a b) → T (leZ b c) → T (leZ a c)
+le-trans (pos a) (pos b) (pos c) p q = le→leb a c (omega (arith, leb→le a b p, leb→le b c q))
+le-trans (pos a) (pos b) (negsuc c) p q = absurd q
+le-trans (pos a) (negsuc b) c p q = absurd p
+le-trans (negsuc a) (pos b) (pos c) p q = tt
+le-trans (negsuc a) (pos b) (negsuc c) p q = absurd q
+le-trans (negsuc a) (negsuc b) (pos c) p q = tt
+le-trans (negsuc a) (negsuc b) (negsuc c) p q = le→leb c a (omega (arith, leb→le b a p, leb→le c b q))
+
+lt-le : (a b : ℤ) → ltZ a b ≡ true → T (leZ a b)
+lt-le (pos a) (pos b) t = le→leb a b (omega (arith, ltb-true a b t))
+lt-le (pos a) (negsuc b) t = true-is t
+lt-le (negsuc a) (pos b) t = tt
+lt-le (negsuc a) (negsuc b) t = le→leb b a (omega (arith, ltb-true b a t))
+
+not-lt-le : (a b : ℤ) → ltZ a b ≡ false → T (leZ b a)
+not-lt-le a b t = true-is (le-not-lt b a ∙ ap not t)
+
+ascending : Order ltZ leZ
+ascending = record { itself = le-same; trans = le-trans; yes = lt-le; no = not-lt-le }
+
+descending : Order (λ y x. ltZ x y) (λ y x. leZ x y)
+descending = record { itself = le-same; trans = λ a b c p q. le-trans c b a q p; yes = λ a b t. lt-le b a t; no = λ a b t. not-lt-le b a t }
+
+-- each value stands from the smallest to the largest
+pub spread-within : (vs : Chutes) → within (smallestOf vs) (largestOf vs) vs ≡ true
+spread-within [] = refl
+spread-within (x ∷ s) =
+    let lo = smallestOf (x ∷ s) in
+    let hi = largestOf (x ∷ s) in
+    is-true (within lo hi (x ∷ s))
+    (every-of (λ y. leZ lo y && leZ y hi) (x ∷ s) (λ y h. and-both (leZ lo y) (leZ y hi) (first-upto ascending x s y h) (first-upto descending x s y h)))
+
+-- ---- the values' offsets
+
+or-assoc : (a b c : ℕ) → bitOr a (bitOr b c) ≡ bitOr (bitOr a b) c
+or-assoc a b c = ext (bitOr a (bitOr b c)) (bitOr (bitOr a b) c) (λ j. omega (arith, bit-or a (bitOr b c) j, bit-or b c j, bit-or (bitOr a b) c j, bit-or a b j))
+
+has-at : (l : Chutes) (i : ℕ) → i < length l → T (has (getD l i (pos 0)) l)
+has-at [] i h = absurd (omega arith)
+has-at (x ∷ l) zero h = has-head x l
+has-at (x ∷ l) (suc i) h = has-tail (getD l i (pos 0)) x l (has-at l i (omega arith))
+
+module _ (lo hi : ℤ) (vs : Chutes) (w : within lo hi vs ≡ true) where
+  pub between : (x : ℤ) → T (has x vs) → T (leZ lo x && leZ x hi)
+  between x h = every-at (λ y. leZ lo y && leZ y hi) vs (true-is w) x h
+
+  place-lt : (x : ℤ) → T (has x vs) → placeOf (spanOf lo hi) (x -ℤ lo) < spanOf lo hi
+  place-lt x h = ltb-true (placeOf (spanOf lo hi) (x -ℤ lo)) (spanOf lo hi) (sym (place-range lo hi x) ∙ is-true (leZ lo x && leZ x hi) (between x h))
+
+  pub from-within : From lo vs
+  from-within x h = from-offset lo x (placeOf (spanOf lo hi) (x -ℤ lo)) (place-value x lo (spanOf lo hi) (place-lt x h))
+
+  natural-place : (x : ℤ) → T (has x vs) → natural (x -ℤ lo) ≡ placeOf (spanOf lo hi) (x -ℤ lo)
+  natural-place x h =
+      let o = placeOf (spanOf lo hi) (x -ℤ lo) in
+      ap natural (ap (λ (y : ℤ). y -ℤ lo) (place-value x lo (spanOf lo hi) (place-lt x h)) ∙ diff-moved lo (pos o))
+
+  -- value i and those after it
+  pub at-lt : (i : ℕ) → i < length vs → placeOf (spanOf lo hi) (getD vs i (pos 0) -ℤ lo) < spanOf lo hi
+  at-lt i h = place-lt (getD vs i (pos 0)) (has-at vs i h)
+
+  pub bits-more : (n i : ℕ) → i < length vs → bitOr n (bitsOf lo (drop i vs)) ≡ bitOr (bitOr n (2 ^ placeOf (spanOf lo hi) (getD vs i (pos 0) -ℤ lo))) (bitsOf lo (drop (i + 1) vs))
+  unfolding bitsOf
+  bits-more n i h =
+      ap (λ (l : Chutes). bitOr n (bitsOf lo l)) (drop-cons vs i (pos 0) h)
+      ∙ or-assoc n (2 ^ natural (getD vs i (pos 0) -ℤ lo)) (bitsOf lo (drop (suc i) vs))
+      ∙ (λ j. bitOr (bitOr n (2 ^ natural-place (getD vs i (pos 0)) (has-at vs i h) j)) (bitsOf lo (drop (sym (add-one i) j) vs)))
+
+  -- each offset is one of the universe's
+  pub bits-inside : (k : ℕ) → In (bitsOf lo vs) k → k < spanOf lo hi
+  bits-inside k h =
+      ltb-true k (spanOf lo hi)
+      (sym (le-span lo hi k) ∙ is-true (leZ (lo +ℤ pos k) hi) (and-right (leZ lo (lo +ℤ pos k)) (leZ (lo +ℤ pos k) hi) (between (lo +ℤ pos k) (in-bits lo vs k from-within h))))
+
+  -- in whatever order the values come, they are those of the universe that are among them
+  pub bits-among : bitsOf lo vs ≡ bitsOf lo (keep (λ x. has x vs) (range lo (spanOf lo hi)))
+  bits-among = range-bits lo (spanOf lo hi) (λ x. has x vs) (bitsOf lo vs) (λ k h. (bits-inside k h, in-bits lo vs k from-within h)) (λ k l h. bits-in lo vs k h)
+
+pub bits-end : (lo : ℤ) (vs : Chutes) (n i : ℕ) → length vs ≤ i → bitOr n (bitsOf lo (drop i vs)) ≡ n
+unfolding bitsOf
+bits-end lo vs n i h = ap (λ (l : Chutes). bitOr n (bitsOf lo l)) (drop-of-length-le vs {i = i} h) ∙ or-zero-r n
+
+-- ---- the domain of some values, by the tests that lead to it
+
+module _ {A : Type 0} (f : BitDomain → A) (wide : A) where
+  pub spread-none : (vs : Chutes) → length vs ≡ 0 → spread f wide vs ≡ f nothing
+  spread-none [] e = refl
+  spread-none (x ∷ s) e = absurd (omega arith)
+
+  pub spread-some : (vs : Chutes) → (length vs ≡ 0 → ⊥) → spread f wide vs ≡ cond (narrow (smallestOf vs) (largestOf vs)) (f (among (smallestOf vs) (largestOf vs) vs)) wide
+  spread-some [] h = absurd (h refl)
+  spread-some (x ∷ s) h = refl
+
+abbrev pub orInvalid : Made → BitDomain
+orInvalid (made.Domain d) = d
+orInvalid (made.Refused r) = invalid
+
+pub from-try : (vs : Chutes) → orInvalid (tryFromValuesOf vs) ≡ fromValuesOf vs
+unfolding fromValuesOf tryFromValuesOf
+from-try [] = refl
+from-try (x ∷ s) = go (narrow (smallestOf (x ∷ s)) (largestOf (x ∷ s)))
+  where
+    go : (b : Bool) → orInvalid (cond b (made.Domain (among (smallestOf (x ∷ s)) (largestOf (x ∷ s)) (x ∷ s))) (made.Refused TooWide)) ≡ cond b (among (smallestOf (x ∷ s)) (largestOf (x ∷ s)) (x ∷ s)) invalid
+    go true = refl
+    go false = refl
