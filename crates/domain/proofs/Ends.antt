@@ -83,3 +83,8 @@ module _ (lo : ℤ) (m : Mask) where
       ap (λ (l : List ℕ). lastOf (map (λ j. lo +ℤ pos j) l)) (members-highest (val m) k p)
       ∙ ap lastOf (map-append (λ j. lo +ℤ pos j) rest (k ∷ []))
       ∙ last-snoc (map (λ j. lo +ℤ pos j) rest) (lo +ℤ pos k)
+
+-- the lowest offset's value comes first, and the rest are those of the mask without it
+pub values-first : (lo : ℤ) (m r : Mask) (k : ℕ) → Lowest (val m) k → val r ≡ bitMinus (val m) (2 ^ k) → valuesOf lo m ≡ (lo +ℤ pos k) ∷ valuesOf lo r
+unfolding valuesOf
+values-first lo m r k p e = ap (map (λ k. lo +ℤ pos k)) (members-first (val m) k p) ∙ ap (λ (n : ℕ). (lo +ℤ pos k) ∷ map (λ k. lo +ℤ pos k) (members n)) (sym e)

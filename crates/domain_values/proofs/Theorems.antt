@@ -40,8 +40,8 @@ use Rattle.domain_values.specs.declared.BitCursor.{BitCursor}
 use Rattle.domain_values.specs.declared.Stepped.{Stepped}
 use Rattle.domain_values.specs.declared.Yielded.the-variants as yielded
 use Rattle.domain_values.proofs.Every.{every-of}
-use Rattle.domain_values.proofs.Walk.{bits-values, values-first}
-use Rattle.domain.proofs.Ends.{none-values}
+use Rattle.domain_values.proofs.Walk.{bits-values}
+use Rattle.domain.proofs.Ends.{values-first, none-values}
 use Rattle.domain.proofs.Theorems.{values-ascend}
 use Rattle.rules.proofs.InOrder.{ascending-unique, ascending-is, has-ascending}
 use Rattle.domain_values.proofs.Spread.{le-trans, first-in, spread-within, between, from-within, bits-inside, bits-among}

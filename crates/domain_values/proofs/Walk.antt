@@ -1,7 +1,6 @@
 -- A mask's values one by one: the lowest offset's comes first, and the rest are those of the mask without it. Assumes nothing.
 use mathlib.Core.Path.{_≡_, sym, ap, _∙_}
 use mathlib.Core.Bool.{Bool, true}
-use mathlib.Core.List.{_∷_, map}
 use Prim.Native.Nat.{ℕ, _^_, _≤_, _<_}
 use native.Mathlib.Nat.{lt-of-lt-of-le}
 use native.Mathlib.Omega.{arith}
@@ -14,7 +13,7 @@ use mir.Val.{SFits}
 use borrow.Author.Tests.{lt-ltb, ltb-true}
 use Rattle.mask.specs.Bit.{bitMinus, Lowest}
 use Rattle.mask.specs.Val.{val, offsets, Fit, val-lt, mask-eq}
-use Rattle.mask.specs.Sets.{In, members, members-first, fits-in}
+use Rattle.mask.specs.Sets.{In, fits-in}
 use Rattle.mask.specs.Tests.{same-test}
 use Rattle.mask.specs.declared.Mask.{Mask}
 use Rattle.offset.specs.Places.{spanOf}
@@ -22,7 +21,7 @@ use Rattle.offset.specs.Universe.{le-span, le-moved, value-in}
 use Rattle.rules.specs.Sets.{has}
 use Rattle.rules.proofs.Tests.{is-true, true-is}
 use Rattle.domain.specs.Set.{valuesOf, bitsOf}
-use Rattle.domain.proofs.Ends.{none-values}
+use Rattle.domain.proofs.Ends.{none-values, values-first}
 use Rattle.domain.proofs.Laws.{in-values, values-in, values-offset, from-values, is-bits}
 use Rattle.domain_values.specs.Calls.{leftIn, wellCursor, nextOf}
 use Rattle.domain_values.specs.declared.BitCursor.{BitCursor}
@@ -34,10 +33,6 @@ use Rattle.domain_values.proofs.Every.{every-at, every-of}
 
 pub bits-values : (lo : ℤ) (m : Mask) → bitsOf lo (valuesOf lo m) ≡ val m
 bits-values lo m = sym (is-bits lo (valuesOf lo m) (val m) (from-values lo m) (in-values lo m) (values-in lo m))
-
-pub values-first : (lo : ℤ) (m r : Mask) (k : ℕ) → Lowest (val m) k → val r ≡ bitMinus (val m) (2 ^ k) → valuesOf lo m ≡ (lo +ℤ pos k) ∷ valuesOf lo r
-unfolding valuesOf
-values-first lo m r k p e = ap (map (λ k. lo +ℤ pos k)) (members-first (val m) k p) ∙ ap (λ (n : ℕ). (lo +ℤ pos k) ∷ map (λ k. lo +ℤ pos k) (members n)) (sym e)
 
 -- ---- a cursor whose values lie within i32
 

@@ -20,8 +20,7 @@ use Rattle.domain.specs.Set.{valuesOf, setOf, width}
 use Rattle.domain.specs.declared.BitDomain.{BitDomain}
 use Rattle.domain.proofs.Places.{well-in}
 use Rattle.domain.proofs.Signed.{read}
-use Rattle.domain_values.proofs.Walk.{values-first}
-use Rattle.domain.proofs.Ends.{size-ones}
+use Rattle.domain.proofs.Ends.{values-first, size-ones}
 use borrow.Author.Needs.{needs}
 use Rattle.domain_values.proofs.list.write.Statement.{statement}
 use Rattle.domain_values.proofs.list.write.Tie as tie

@@ -1,0 +1,5 @@
+pub mod Values
+pub mod Texts
+pub mod Puts
+pub mod Room
+pub mod Examples
