@@ -7,6 +7,9 @@ use mir.Syntax.{w32}
 use mir.Val.{SFits, toZ, ofZ}
 use mir.Facts.{toZ-ofZ}
 use borrow.Author.Tests.{eq-eqb, eqb-true}
+use lib.Signed.{ltZ}
+use Rattle.rules.specs.declared.Value.{Value}
+use Rattle.domain.specs.Calls.{ordered}
 use Rattle.rules.specs.Sets.{same}
 use Rattle.rules.proofs.SetLaws.{same→eq, same-refl}
 use Rattle.rules.proofs.Tests.{is-true, is-false}
@@ -26,3 +29,14 @@ same-bits x y f g = go (eqb (ofZ w32 x) (ofZ w32 y)) refl
       where
         no : ofZ w32 x ≡ ofZ w32 y → ⊥
         no q = let z : true ≡ false = sym (eq-eqb (ofZ w32 x) (ofZ w32 y) q) ∙ e in true≢false z
+
+-- two bounds compared by their bits are taken in order
+module _ {A : Type 0} (f : ℤ → ℤ → A) (a b : Value) (x : SFits w32 (a .0)) (y : SFits w32 (b .0)) (r : A) where
+  bits-less : (t : Bool) → ltZ (toZ w32 (ofZ w32 (b .0))) (toZ w32 (ofZ w32 (a .0))) ≡ t → ltZ (b .0) (a .0) ≡ t
+  bits-less t e = sym (λ i. ltZ (read (b .0) y i) (read (a .0) x i)) ∙ e
+
+  pub exchanged : ltZ (toZ w32 (ofZ w32 (b .0))) (toZ w32 (ofZ w32 (a .0))) ≡ true → r ≡ f (toZ w32 (ofZ w32 (b .0))) (toZ w32 (ofZ w32 (a .0))) → r ≡ ordered f a b
+  exchanged t e = rw (bits-less true t) (e ∙ (λ i. f (read (b .0) y i) (read (a .0) x i)))
+
+  pub in-order : ltZ (toZ w32 (ofZ w32 (b .0))) (toZ w32 (ofZ w32 (a .0))) ≡ false → r ≡ f (toZ w32 (ofZ w32 (a .0))) (toZ w32 (ofZ w32 (b .0))) → r ≡ ordered f a b
+  in-order t e = rw (bits-less false t) (e ∙ (λ i. f (read (a .0) x i) (read (b .0) y i)))

@@ -72,38 +72,45 @@ fn try_between(all: bool, min: i32, max: i32) -> Made
     Made::Domain(bare(min, max))
 }
 
+// The bounds in either order.
+fn new_of(all: bool, a: Value, b: Value) -> BitDomain
+    ensures { λ r. ⌜ r ≡ newOf all a b ⌝ }
+{
+    if b.0 < a.0 {
+        return between(all, b.0, a.0);
+    }
+    between(all, a.0, b.0)
+}
+
+fn try_new_of(all: bool, a: Value, b: Value) -> Made
+    ensures { λ r. ⌜ r ≡ tryNewOf all a b ⌝ }
+{
+    if b.0 < a.0 {
+        return try_between(all, b.0, a.0);
+    }
+    try_between(all, a.0, b.0)
+}
+
 pub fn new(a: Value, b: Value) -> BitDomain
     ensures { λ r. ⌜ r ≡ newOf true a b ⌝ }
 {
-    if b.0 < a.0 {
-        return between(true, b.0, a.0);
-    }
-    between(true, a.0, b.0)
+    new_of(true, a, b)
 }
 
 pub fn new_empty(a: Value, b: Value) -> BitDomain
     ensures { λ r. ⌜ r ≡ newOf false a b ⌝ }
 {
-    if b.0 < a.0 {
-        return between(false, b.0, a.0);
-    }
-    between(false, a.0, b.0)
+    new_of(false, a, b)
 }
 
 pub fn try_new(a: Value, b: Value) -> Made
     ensures { λ r. ⌜ r ≡ tryNewOf true a b ⌝ }
 {
-    if b.0 < a.0 {
-        return try_between(true, b.0, a.0);
-    }
-    try_between(true, a.0, b.0)
+    try_new_of(true, a, b)
 }
 
 pub fn try_new_empty(a: Value, b: Value) -> Made
     ensures { λ r. ⌜ r ≡ tryNewOf false a b ⌝ }
 {
-    if b.0 < a.0 {
-        return try_between(false, b.0, a.0);
-    }
-    try_between(false, a.0, b.0)
+    try_new_of(false, a, b)
 }
