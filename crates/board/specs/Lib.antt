@@ -1,0 +1,5 @@
+pub mod Rows
+pub mod Well
+pub mod View
+pub mod Answers
+pub mod Obeys

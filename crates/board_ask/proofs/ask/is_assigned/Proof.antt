@@ -1,0 +1,41 @@
+-- `board_ask::ask::is_assigned` meets its contract: the domain that `domain_of` finds answers. Assumes nothing.
+use Rattle.rules.specs.declared.Refusal.the-variants.{Broken}
+use Rattle.domain.specs.Calls.{isFixedOf}
+use Rattle.domain.specs.declared.Told.the-variants as told
+use Rattle.board_ask.specs.Questions.{isAssignedOf}
+use Rattle.board_ask.proofs.AskLaws.{answered, refused}
+use borrow.Author.Needs.{needs}
+use Rattle.board_ask.proofs.ask.is_assigned.Statement.{statement}
+use Rattle.board_ask.proofs.ask.is_assigned.Tie as tie
+
+domain-of-requires : tie.Need-domain-of-requires
+domain-of-requires c κs = search needs
+
+enum-known-sought : tie.Need-enum-known-sought
+enum-known-sought c = search needs
+
+is-fixed-requires : tie.Need-is-fixed-requires
+is-fixed-requires c κs = search needs
+
+enum-told : tie.Need-enum-told
+enum-told c = search needs
+
+returns : tie.Need-returns
+unfolding isAssignedOf
+returns c =
+    let m = c .before .before in
+    let d = m .before .before in
+    let a = d .before .before .before .before .args in
+    answered isFixedOf (told.Refused Broken) (a .b) (a .id) (d .domain-of .result) (d .domain-of .ensures) (c .is-fixed .result) (m .sought .given .0 .0) (c .is-fixed .ensures) (m .sought .given .1)
+
+returns-2 : tie.Need-returns-2
+unfolding isAssignedOf
+returns-2 c =
+    let d = c .before .before in
+    let a = d .before .before .before .before .args in
+    refused isFixedOf (told.Refused Broken) (a .b) (a .id) (d .domain-of .result) (d .domain-of .ensures) (c .enum-told .given .1)
+
+pub is-assigned-spec : {M : Type 1} → statement M
+is-assigned-spec =
+    tie.close
+    (tie.spec domain-of-requires enum-known-sought is-fixed-requires enum-told returns returns-2)

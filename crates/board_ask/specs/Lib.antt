@@ -1,0 +1,5 @@
+pub mod Domains
+pub mod Questions
+pub mod Names
+pub mod Ready
+pub mod Answers

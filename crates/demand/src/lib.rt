@@ -1,0 +1,2 @@
+// Demand 3 about every public call of the board together. There is no code here: specs/Script.antt names the calls and runs
+// them one after another on the real board, and proofs/Demand.antt says what a trial keeps, whichever calls are made.

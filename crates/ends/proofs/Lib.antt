@@ -1,0 +1,2 @@
+-- The laws of the first of some values.
+pub mod Firsts

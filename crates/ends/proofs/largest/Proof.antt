@@ -1,0 +1,73 @@
+-- `ends::largest` meets its contract. The invariant: the largest of `best` and the values from i on is the largest of all.
+-- Assumes nothing.
+use mathlib.Core.Path.{_≡_, sym, _∙_}
+use mathlib.Core.Bool.{Bool}
+use Prim.Native.Nat.{_-_}
+use native.Mathlib.Omega.{arith}
+use lib.IntN.{ℤ}
+use lib.ListN.{length, drop}
+use lib.Signed.{ltZ}
+use mir.Syntax.{w32}
+use mir.Val.{toZ}
+use Rattle.ends.specs.Ends.{first, largestOf}
+use Rattle.ends.proofs.Firsts.{first-start, first-more, first-end}
+use borrow.Author.Needs.{needs}
+use Rattle.ends.proofs.largest.Statement.{statement}
+use Rattle.ends.proofs.largest.Tie as tie
+
+abbrev before : ℤ → ℤ → Bool
+before = (λ y x. ltZ x y)
+
+abbrev Inv-loop : tie.InvT-loop
+Inv-loop values best₀ i₀ best i = first before (toZ w32 best) (drop i values) ≡ largestOf values
+
+abbrev μ-loop : tie.MeasureT-loop
+μ-loop values best₀ i₀ best i = length values - i
+
+shared-slice-copy-out-best : tie.Need-shared-slice-copy-out-best Inv-loop μ-loop
+shared-slice-copy-out-best c = c .pre
+
+loop-holds : tie.Need-loop-holds Inv-loop μ-loop
+loop-holds c = first-start before (c .before .args .values .now) (c .before .pre) (search needs)
+
+mul-greater : tie.Need-mul-greater Inv-loop μ-loop
+mul-greater c = search needs
+
+shared-slice-copy-out-greater : tie.Need-shared-slice-copy-out-greater Inv-loop μ-loop
+shared-slice-copy-out-greater c = search needs
+
+greater-requires : tie.Need-greater-requires Inv-loop μ-loop
+greater-requires c κs = search needs
+
+add-i : tie.Need-add-i Inv-loop μ-loop
+add-i c = search needs
+
+loop-less : tie.Need-loop-less Inv-loop μ-loop
+loop-less c = omega arith
+
+loop-again : tie.Need-loop-again Inv-loop μ-loop
+loop-again c =
+    let n = c .before .before in
+    let at = n .before .loop in
+    first-more before (n .before .before .before .args .values .now) (toZ w32 (at .best)) (c .greater .result) (at .i) (n .loop-test .taken) (search needs) (search needs) (c .greater .ensures) ∙ at .inv
+
+returns : tie.Need-returns Inv-loop μ-loop
+returns c =
+    let a = c .before in
+    sym (first-end before (a .before .before .args .values .now) (toZ w32 (a .loop .best)) (a .loop .i) (c .loop-test .left)) ∙ a .loop .inv
+
+pub largest-spec : {M : Type 1} → statement M
+largest-spec =
+    tie.close
+    (tie.spec
+    Inv-loop
+    μ-loop
+    shared-slice-copy-out-best
+    loop-holds
+    mul-greater
+    shared-slice-copy-out-greater
+    greater-requires
+    add-i
+    loop-less
+    loop-again
+    returns)

@@ -1,0 +1,63 @@
+-- What is beyond a limit, gathered over masks; and what a put changes and leaves of the saved masks.
+use mathlib.Core.Path.{_≡_, refl, _∙_}
+use mathlib.Core.Bool.{Bool, true, false, _&&_}
+use mathlib.Core.List.{List}
+use Prim.Native.Nat.{ℕ, _+_, _-_, _^_, _<_}
+use native.Mathlib.Nat.{le-antisymm}
+use native.Mathlib.Omega.{arith}
+use lib.Bits.{bitOr}
+use lib.Dec.{eqb, ltb}
+use lib.ListN.{length, getD, set, length-set}
+use lib.Seq.{getD-set-same, getD-set-other}
+use borrow.Author.Tests.{eqb-true, eqb-false, ne-eqb}
+use Rattle.mask.specs.Bit.{bitMinus, or-none}
+use Rattle.mask.specs.Sets.{in-first, fits-in, minus-none, subset-in}
+use Rattle.mask.specs.Tests.{eqb-ltb-iff}
+use Rattle.mask.specs.declared.Mask.{Mask}
+use Rattle.saved.specs.Saved.{start, savedAt, putAt}
+
+-- ---- what is beyond
+
+-- x without its members below k is none exactly if x is below 2 ^ k
+pub beyond-none : (x k : ℕ) → eqb (bitMinus x (2 ^ k - 1)) 0 ≡ ltb x (2 ^ k)
+beyond-none x k =
+    eqb-ltb-iff (bitMinus x (2 ^ k - 1)) 0 x (2 ^ k)
+    (λ e. fits-in x k .1 (λ j h. in-first k j .0 (subset-in x (2 ^ k - 1) .0 (minus-none x (2 ^ k - 1) .0 e) j h)))
+    (λ l. minus-none x (2 ^ k - 1) .1 (subset-in x (2 ^ k - 1) .1 (λ j h. in-first k j .1 (fits-in x k .0 l j h))))
+
+pub or-test : (a b : ℕ) → eqb (bitOr a b) 0 ≡ eqb b 0 && eqb a 0
+or-test a b = go (eqb b 0) refl (eqb a 0) refl
+  where
+    go : (s : Bool) → eqb b 0 ≡ s → (t : Bool) → eqb a 0 ≡ t → eqb (bitOr a b) 0 ≡ s && t
+    go true p true q = rw (eqb-true b 0 p, eqb-true a 0 q)
+    go true p false q = ne-eqb (bitOr a b) 0 (λ e. eqb-false a 0 q (or-none a b e .0))
+    go false p t q = ne-eqb (bitOr a b) 0 (λ e. eqb-false b 0 p (or-none a b e .1))
+
+-- ---- a put
+
+module _ (ws : List ℕ) (m i : ℕ) (x : Mask) (room : start m i + 1 < length ws) where
+  pub put-here : savedAt (putAt ws m i x) m i ≡ x
+  unfolding savedAt putAt
+  put-here =
+      let lo : getD (set (set ws (start m i) (x .lo)) (start m i + 1) (x .hi)) (start m i) 0 ≡ x .lo =
+      getD-set-other (set ws (start m i) (x .lo)) (start m i + 1) (start m i) (x .hi) 0 (λ e. omega arith)
+      ∙ getD-set-same ws (start m i) (x .lo) 0 (omega arith) in
+      let hi : getD (set (set ws (start m i) (x .lo)) (start m i + 1) (x .hi)) (start m i + 1) 0 ≡ x .hi =
+      getD-set-same (set ws (start m i) (x .lo)) (start m i + 1) (x .hi) 0 (rw length-set room) in
+      λ t. record { lo = lo t; hi = hi t }
+
+pub put-there : (ws : List ℕ) (m i : ℕ) (x : Mask) (n j : ℕ) → i < 64 → j < 64 → (m ≡ n → i ≡ j → ⊥) → savedAt (putAt ws m i x) n j ≡ savedAt ws n j
+unfolding savedAt putAt
+put-there ws m i x n j p q ne =
+    let at : (k : ℕ) → (k ≡ start m i → ⊥) → (k ≡ start m i + 1 → ⊥) → getD (set (set ws (start m i) (x .lo)) (start m i + 1) (x .hi)) k 0 ≡ getD ws k 0 =
+    λ k a b. getD-set-other (set ws (start m i) (x .lo)) (start m i + 1) k (x .hi) 0 b ∙ getD-set-other ws (start m i) k (x .lo) 0 a in
+    let apart : (start n j ≡ start m i) → ⊥ =
+    λ e. let z : m ≡ n = le-antisymm (omega arith) (omega arith) in ne z (omega arith) in
+    λ t. record {
+      lo = at (start n j) apart (λ e. omega arith) t;
+      hi = at (start n j + 1) (λ e. omega arith) (λ e. apart (omega arith)) t;
+    }
+
+pub put-length : (ws : List ℕ) (m i : ℕ) (x : Mask) → length (putAt ws m i x) ≡ length ws
+unfolding putAt
+put-length ws m i x = rw (length-set, length-set)

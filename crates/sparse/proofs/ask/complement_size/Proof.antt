@@ -1,0 +1,46 @@
+-- `sparse::ask::complement_size` meets its contract: it is asked of an accepted set, and refused as the check says otherwise. Assumes nothing.
+use mathlib.Core.Path.{_≡_, sym, ap, _∙_}
+use Rattle.sparse_inner.specs.declared.Verdict.the-variants.{Fine}
+use Rattle.sparse_inner.specs.Set.{Full, full, verdictOf, WellF}
+use Rattle.sparse_inner.proofs.Checks.{well-of}
+use native.Mathlib.Omega.{arith}
+use Rattle.sparse.specs.Calls.{complementSizeOf}
+use borrow.Author.Needs.{needs}
+use Rattle.sparse.proofs.ask.complement_size.Statement.{statement}
+use Rattle.sparse.proofs.ask.complement_size.Tie as tie
+
+abbrev fu : tie.Start → Full
+fu s = full (s .args .s) (s .args .ind .now) (s .args .val .now)
+
+fine : (c : tie.After-enum-told) → verdictOf (fu (c .before .before .before .before .before)) ≡ Fine
+fine c = sym (c .before .before .check .ensures) ∙ c .enum-told .given .1
+
+well : (c : tie.After-enum-told) → WellF (fu (c .before .before .before .before .before))
+well c = well-of (fu (c .before .before .before .before .before)) (fine c)
+
+check-requires : tie.Need-check-requires
+check-requires c κs = search needs
+
+enum-known-why : tie.Need-enum-known-why
+enum-known-why c = search needs
+
+enum-told : tie.Need-enum-told
+enum-told c = search needs
+
+sub-t7 : tie.Need-sub-t7
+sub-t7 c = omega (arith, well (c .before) .within)
+
+cast-t8 : tie.Need-cast-t8
+cast-t8 c = search needs
+
+returns : tie.Need-returns
+unfolding complementSizeOf
+returns c = rw (sym (c .before .before .before .check .ensures) ∙ c .before .why .given .1)
+
+returns-2 : tie.Need-returns-2
+unfolding complementSizeOf
+returns-2 c = rw (sym (c .before .before .before .check .ensures) ∙ c .before .enum-told .given .1)
+
+pub complement-size-spec : {M : Type 1} → statement M
+complement-size-spec =
+    tie.close (tie.spec check-requires enum-known-why enum-told sub-t7 cast-t8 returns returns-2)

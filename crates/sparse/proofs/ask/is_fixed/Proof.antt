@@ -1,0 +1,26 @@
+-- `sparse::ask::is_fixed` meets its contract: it is asked of an accepted set, and refused as the check says otherwise. Assumes nothing.
+use mathlib.Core.Path.{_≡_, sym, ap, _∙_}
+use Rattle.sparse.specs.Calls.{isFixedOf}
+use borrow.Author.Needs.{needs}
+use Rattle.sparse.proofs.ask.is_fixed.Statement.{statement}
+use Rattle.sparse.proofs.ask.is_fixed.Tie as tie
+
+check-requires : tie.Need-check-requires
+check-requires c κs = search needs
+
+enum-known-why : tie.Need-enum-known-why
+enum-known-why c = search needs
+
+enum-told : tie.Need-enum-told
+enum-told c = search needs
+
+returns : tie.Need-returns
+unfolding isFixedOf
+returns c = rw (sym (c .before .before .before .check .ensures) ∙ c .before .why .given .1)
+
+returns-2 : tie.Need-returns-2
+unfolding isFixedOf
+returns-2 c = rw (sym (c .before .before .before .check .ensures) ∙ c .before .enum-told .given .1)
+
+pub is-fixed-spec : {M : Type 1} → statement M
+is-fixed-spec = tie.close (tie.spec check-requires enum-known-why enum-told returns returns-2)

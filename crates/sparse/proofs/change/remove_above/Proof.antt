@@ -1,0 +1,71 @@
+-- `sparse::change::remove_above` meets its contract: the work is done on an accepted set, and all comes back as it came otherwise. Assumes nothing.
+use mathlib.Core.Path.{_≡_, sym, ap, _∙_}
+use Rattle.sparse_inner.specs.declared.Verdict.the-variants.{Fine}
+use Rattle.sparse_inner.specs.Set.{Full, full, verdictOf, WellF}
+use Rattle.sparse_inner.proofs.Checks.{well-of}
+use Rattle.sparse.specs.declared.Outcome.the-variants.{Done}
+use Rattle.sparse_inner.specs.Change.{underCut}
+use Rattle.sparse.specs.Calls.{after, removeAboveOf}
+use borrow.Author.Needs.{needs}
+use Rattle.sparse.proofs.change.remove_above.Statement.{statement}
+use Rattle.sparse.proofs.change.remove_above.Tie as tie
+
+abbrev fu : tie.Start → Full
+fu s = full (s .args .s) (s .args .ind .now) (s .args .val .now)
+
+fine : (c : tie.After-enum-told) → verdictOf (fu (c .before .before .before .before .before .before .before)) ≡ Fine
+fine c = sym (c .before .before .check .ensures) ∙ c .enum-told .given .1
+
+well : (c : tie.After-enum-told) → WellF (fu (c .before .before .before .before .before .before .before))
+well c = well-of (fu (c .before .before .before .before .before .before .before)) (fine c)
+
+check-requires : tie.Need-check-requires
+check-requires c κs = search needs
+
+enum-known-why : tie.Need-enum-known-why
+enum-known-why c = search needs
+
+enum-told : tie.Need-enum-told
+enum-told c = search needs
+
+upto-requires : tie.Need-upto-requires
+upto-requires c κs = search needs
+
+under-cut-requires : tie.Need-under-cut-requires
+under-cut-requires c κs = well (c .before .before .before)
+
+same-length : tie.Need-same-length
+same-length c = search needs
+
+same-length-2 : tie.Need-same-length-2
+same-length-2 c = search needs
+
+returns : tie.Need-returns
+unfolding removeAboveOf
+returns c = rw (sym (c .before .before .before .check .ensures) ∙ c .before .why .given .1)
+
+same-length-3 : tie.Need-same-length-3
+same-length-3 c = search needs
+
+same-length-4 : tie.Need-same-length-4
+same-length-4 c = search needs
+
+returns-2 : tie.Need-returns-2
+unfolding removeAboveOf
+returns-2 c = rw (fine (c .before .before .before .before .before .before .before .before)) (λ i. after Done ((c .before .before .before .before .under-cut .ensures ∙ ap (underCut (fu (c .before .before .before .before .before .before .before .before .before .before .before .before .before .before .before))) (c .before .before .before .before .before .upto .ensures)) i))
+
+pub remove-above-spec : {M : Type 1} → statement M
+remove-above-spec =
+    tie.close
+    (tie.spec
+    check-requires
+    enum-known-why
+    enum-told
+    upto-requires
+    under-cut-requires
+    same-length
+    same-length-2
+    returns
+    same-length-3
+    same-length-4
+    returns-2)

@@ -1,0 +1,2 @@
+-- `Each`: values taken one after the other.
+pub mod Each

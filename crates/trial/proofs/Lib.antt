@@ -1,0 +1,8 @@
+-- Laws that belong to no one function.
+pub mod Marking
+pub mod Kept
+pub mod Theorems
+pub mod Chains
+pub mod Levels
+pub mod Words
+pub mod Demand
