@@ -22,7 +22,8 @@ use Rattle.domain.specs.Set.{setOf, well, width}
 use Rattle.domain.specs.Calls.{newOf, narrow}
 use Rattle.domain.specs.declared.BitDomain.{BitDomain}
 use Rattle.domain.proofs.Theorems.{new-well, values-ascend}
-use Rattle.domain_values.specs.Calls.{fromValuesOf, smallestOf, largestOf}
+use Rattle.domain_values.specs.Calls.{fromValuesOf}
+use Rattle.ends.specs.Ends.{smallestOf, largestOf}
 use Rattle.domain_values.proofs.Theorems.{from-well, from-set}
 use Rattle.saved.specs.Saved.{fitUnder}
 use Rattle.board.specs.Rows.{row0, rowAt, idAt, domainAt, seat, withDomain}

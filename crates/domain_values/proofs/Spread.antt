@@ -12,8 +12,6 @@ use lib.IntN.{ℤ, pos, negsuc, _+ℤ_, _-ℤ_}
 use lib.ListN.{length, getD, drop, drop-of-length-le}
 use lib.Seq.{drop-cons}
 use lib.Signed.{ltZ, leZ}
-use mir.Syntax.{w32}
-use mir.Val.{SFits, toZ, ofZ}
 use borrow.Author.Tests.{ltb-true}
 use Rattle.mask.specs.Bit.{bit-or, ext}
 use Rattle.mask.specs.Sets.{In}
@@ -28,31 +26,10 @@ use Rattle.domain.specs.Calls.{invalid, narrow}
 use Rattle.domain.specs.declared.BitDomain.{BitDomain}
 use Rattle.domain.specs.declared.Made.{Made}
 use Rattle.domain.specs.declared.Made.the-variants as made
-use Rattle.domain.proofs.Signed.{read}
 use Rattle.domain.proofs.Laws.{From, from-offset, bits-in, in-bits, range-bits}
-use Rattle.domain_values.specs.Calls.{first, firstOf, smallestOf, largestOf, within, among, nothing, spread, fromValuesOf, tryFromValuesOf}
+use Rattle.domain_values.specs.Calls.{within, among, nothing, spread, fromValuesOf, tryFromValuesOf}
+use Rattle.ends.specs.Ends.{first, smallestOf, largestOf}
 use Rattle.domain_values.proofs.Every.{every-at, every-of}
-
--- ---- the first of some values, one value at a time: as a loop takes it, which reads values back from bits
-
-module _ (before : ℤ → ℤ → Bool) (l : Chutes) where
-  pub first-start : 0 < length l → SFits w32 (getD l 0 (pos 0)) → first before (toZ w32 (ofZ w32 (getD l 0 (pos 0)))) (drop 1 l) ≡ firstOf before l
-  first-start h f = ap (λ (z : ℤ). first before z (drop 1 l)) (read (getD l 0 (pos 0)) f) ∙ go l h
-    where
-      go : (l : Chutes) → 0 < length l → first before (getD l 0 (pos 0)) (drop 1 l) ≡ firstOf before l
-      go [] h = absurd (omega arith)
-      go (x ∷ l) h = refl
-
-  pub first-more : (b r : ℤ) (i : ℕ) → i < length l → SFits w32 (getD l i (pos 0)) → SFits w32 r
-      → r ≡ cond (before (toZ w32 (ofZ w32 (getD l i (pos 0)))) b) (toZ w32 (ofZ w32 (getD l i (pos 0)))) b
-      → first before (toZ w32 (ofZ w32 r)) (drop (i + 1) l) ≡ first before b (drop i l)
-  first-more b r i h f g e =
-      let x = getD l i (pos 0) in
-      ap (λ (z : ℤ). first before z (drop (i + 1) l)) (read r g ∙ e ∙ (λ j. cond (before (read x f j) b) (read x f j) b))
-      ∙ ap (λ (n : ℕ). first before (cond (before x b) x b) (drop n l)) (add-one i) ∙ ap (first before b) (sym (drop-cons l i (pos 0) h))
-
-  pub first-end : (b : ℤ) (i : ℕ) → length l ≤ i → first before b (drop i l) ≡ b
-  first-end b i h = ap (first before b) (drop-of-length-le l {i = i} h)
 
 -- an order, and the test by which one value stands before another
 record Order (before upto : ℤ → ℤ → Bool) : Type 0 where

@@ -33,7 +33,8 @@ use Rattle.domain.specs.declared.BitDomain.{BitDomain}
 use Rattle.domain.specs.declared.Counted.the-variants as counted
 use Rattle.domain.proofs.Laws.{in-values, values-offset, bits-in, in-bits}
 use Rattle.domain.proofs.Places.{well-width, well-in}
-use Rattle.domain_values.specs.Calls.{leftIn, wellCursor, cursorOf, iterOf, leaving, stepOf, nextOf, Written, written, inFront, toVecOf, smallestOf, largestOf, within, among, nothing, fromValuesOf}
+use Rattle.domain_values.specs.Calls.{leftIn, wellCursor, cursorOf, iterOf, leaving, stepOf, nextOf, Written, written, inFront, toVecOf, within, among, nothing, fromValuesOf}
+use Rattle.ends.specs.Ends.{smallestOf, largestOf}
 use Rattle.domain_values.specs.Runs.{told, yields, after}
 use Rattle.domain_values.specs.declared.Begun.the-variants as begun
 use Rattle.domain_values.specs.declared.BitCursor.{BitCursor}

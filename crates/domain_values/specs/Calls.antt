@@ -4,7 +4,7 @@ use mathlib.Core.List.{List, [], _∷_, _++_}
 use lib.Dec.{ltb}
 use lib.ListN.{length, drop}
 use lib.IntN.{ℤ, pos, negsuc}
-use lib.Signed.{ltZ, leZ}
+use lib.Signed.{leZ}
 use Rattle.mask.specs.Val.{maskOf}
 use Rattle.offset.specs.Places.{spanOf}
 use Rattle.rules.specs.Sets.{Chutes, has, keep, every}
@@ -14,6 +14,7 @@ use Rattle.domain.specs.declared.Made.{Made}
 use Rattle.domain.specs.declared.Made.the-variants as made
 use Rattle.domain.specs.declared.Counted.{Counted}
 use Rattle.domain.specs.declared.Counted.the-variants as counted
+use Rattle.ends.specs.Ends.{smallestOf, largestOf}
 use Rattle.domain.specs.Set.{valuesOf, setOf, range, well, bitsOf, over}
 use Rattle.domain.specs.Calls.{invalid, narrow}
 use Rattle.domain_values.specs.declared.BitCursor.{BitCursor}
@@ -74,22 +75,6 @@ toVecOf d cells =
     (written (counted.Refused Broken) cells)
 
 -- ---- domains from values
-
--- of x and s, the one that stands before all others
-abbrev pub first : (ℤ → ℤ → Bool) → ℤ → Chutes → ℤ
-first before x [] = x
-first before x (y ∷ s) = first before (cond (before y x) y x) s
-
--- of a list; 0 where it is empty
-abbrev pub firstOf : (ℤ → ℤ → Bool) → Chutes → ℤ
-firstOf before [] = pos 0
-firstOf before (x ∷ s) = first before x s
-
-abbrev pub smallestOf : Chutes → ℤ
-smallestOf vs = firstOf ltZ vs
-
-abbrev pub largestOf : Chutes → ℤ
-largestOf vs = firstOf (λ y x. ltZ x y) vs
 
 -- each value of vs stands from lo to hi
 abbrev pub within : ℤ → ℤ → Chutes → Bool

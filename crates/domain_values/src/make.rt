@@ -1,56 +1,15 @@
 // Domains made from values, in any order and with repeats: the universe goes from the smallest to the largest.
 ghost use mathlib.Core.Path.{_≡_};
-ghost use mathlib.Core.Bool.{cond, true};
+ghost use mathlib.Core.Bool.{true};
 ghost use mathlib.Core.List.{[]};
-ghost use Prim.Native.Nat.{_<_};
-ghost use lib.ListN.{length};
-ghost use lib.Signed.{ltZ};
 ghost use Rattle.mask.specs.Val.{val};
 ghost use Rattle.domain.specs.Set.{bitsOf, over};
 ghost use Rattle.domain.specs.Calls.{narrow};
-ghost use Rattle.domain_values.specs.Calls.{smallestOf, largestOf, within, among, fromValuesOf, tryFromValuesOf};
+ghost use Rattle.domain_values.specs.Calls.{within, among, fromValuesOf, tryFromValuesOf};
 use domain::BitDomain;
 use domain::Made;
 use mask::Mask;
 use rules::Refusal;
-
-fn lesser(a: i32, b: i32) -> i32
-    ensures { λ r. ⌜ r ≡ cond (ltZ b a) b a ⌝ }
-{
-    if b < a { b } else { a }
-}
-
-fn greater(a: i32, b: i32) -> i32
-    ensures { λ r. ⌜ r ≡ cond (ltZ a b) b a ⌝ }
-{
-    if a < b { b } else { a }
-}
-
-fn smallest(values: &[i32]) -> i32
-    requires { ⌜ 0 < length (now values) ⌝ }
-    ensures { λ r. ⌜ r ≡ smallestOf (now (values .entry)) ⌝ }
-{
-    let mut best = values[0];
-    let mut i = 1;
-    while i < values.len() {
-        best = lesser(best, values[i]);
-        i += 1;
-    }
-    best
-}
-
-fn largest(values: &[i32]) -> i32
-    requires { ⌜ 0 < length (now values) ⌝ }
-    ensures { λ r. ⌜ r ≡ largestOf (now (values .entry)) ⌝ }
-{
-    let mut best = values[0];
-    let mut i = 1;
-    while i < values.len() {
-        best = greater(best, values[i]);
-        i += 1;
-    }
-    best
-}
 
 // A universe of which nothing is held.
 fn bare(min: i32, max: i32) -> BitDomain
@@ -97,8 +56,8 @@ pub fn try_new_from_values(values: &[i32]) -> Made
     if values.len() == 0 {
         return Made::Domain(bare(0, -1));
     }
-    let min = smallest(values);
-    let max = largest(values);
+    let min = ends::smallest(values);
+    let max = ends::largest(values);
     if mask::OFFSETS < offset::span(min, max) {
         return Made::Refused(Refusal::TooWide);
     }

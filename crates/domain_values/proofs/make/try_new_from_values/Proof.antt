@@ -13,7 +13,8 @@ use Rattle.rules.specs.declared.Refusal.the-variants.{TooWide}
 use Rattle.domain.specs.Calls.{narrow}
 use Rattle.domain.specs.declared.Made.the-variants as made
 use Rattle.domain.proofs.Signed.{read}
-use Rattle.domain_values.specs.Calls.{smallestOf, largestOf, among, tryFromValuesOf}
+use Rattle.domain_values.specs.Calls.{among, tryFromValuesOf}
+use Rattle.ends.specs.Ends.{smallestOf, largestOf}
 use Rattle.domain_values.proofs.Spread.{spread-within, spread-none, spread-some}
 use borrow.Author.Needs.{needs}
 use Rattle.domain_values.proofs.make.try_new_from_values.Statement.{statement}
