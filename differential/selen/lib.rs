@@ -5,5 +5,14 @@
 pub mod variables {
     pub mod domain {
         pub mod bitset_domain;
+        pub mod sparse_set;
     }
+}
+
+pub mod constraints {
+    pub mod gac_bitset;
+    pub mod gac_hybrid;
+    /// gac_hybrid.rs names a type that no file supplies: a stand-in. Nothing that is compared calls it.
+    #[path = "../stub_sparseset_gac.rs"]
+    pub mod gac_sparseset;
 }

@@ -1,113 +1,73 @@
-//! Compares the proved calls with the original, and measures them against it.
+//! Compares the proved calls with the original, and measures them against it, part by part.
 //!
-//! differential quick                     5,000,000 calls, and the comparison tried on a fault made on purpose
-//! differential long [CALLS [SEED]]       20,000,000 calls, or so many
-//! differential record FILE [FRAMES]      a sample of scripts with the Rust's answers, for crates/replay_domain/stdin
-//! differential speed                     times of both sides (built with the feature `linked`)
+//! differential quick [PART]                     a minute's comparison, and the comparison tried on faults made on purpose
+//! differential long [PART [CALLS [SEED]]]       the long one
+//! differential record PART FILE [FRAMES]        a sample of scripts with the Rust's answers, for the replaying programs
+//! differential speed [PART]                     times of both sides (built with the feature `linked`)
 
-mod compare;
-mod generate;
+mod domain;
 mod ours;
-mod paper;
-mod rust_side;
-mod script;
+mod random;
+
+const PARTS: [&str; 1] = ["domain"];
+
+fn number(word: Option<&String>) -> Option<u64> {
+    word.map(|w| w.replace(['_', ','], "").parse().expect("a number"))
+}
+
+fn usage() -> ! {
+    eprintln!("usage: differential quick [PART] | long [PART [CALLS [SEED]]] | record PART FILE [FRAMES] | speed [PART]");
+    eprintln!("parts: {}", PARTS.join(" "));
+    std::process::exit(2);
+}
+
+fn quick(part: &str) -> bool {
+    match part {
+        "domain" => domain::quick(),
+        _ => usage(),
+    }
+}
+
+fn long(part: &str, calls: Option<u64>, seed: u64) -> bool {
+    match part {
+        "domain" => domain::long(calls, seed),
+        _ => usage(),
+    }
+}
+
+fn record(part: &str, file: &str, frames: u64) -> bool {
+    match part {
+        "domain" => domain::record(file, frames),
+        _ => usage(),
+    }
+    true
+}
+
 #[cfg(feature = "linked")]
-mod speed;
-
-use ours::Ours;
-use rust_side::RustSide;
-use std::time::Instant;
-
-fn number(word: Option<&String>, other: u64) -> u64 {
-    word.map_or(other, |w| w.replace(['_', ','], "").parse().expect("a number"))
-}
-
-fn table(side: &RustSide) {
-    for row in script::CALLS.iter().filter(|c| !c.1.starts_with('=')).collect::<Vec<_>>().chunks(4) {
-        let line: Vec<String> = row.iter().map(|c| format!("{:>20} {:>9}", c.1, side.counts.calls[c.0 as usize])).collect();
-        println!("{}", line.join(" "));
-    }
-    for (i, (_, text)) in paper::RULES.iter().enumerate() {
-        println!("by the paper and not by the Rust: {text}: {} calls", side.counts.rules[i]);
-    }
-    let refused: Vec<String> = (0..16).filter(|k| side.counts.refused[*k] > 0).map(|k| format!("{k}: {}", side.counts.refused[k])).collect();
-    println!("refusals by number: {}", refused.join(", "));
-}
-
-fn compare(seed: u64, calls: u64) -> bool {
-    let mut ours = Ours::start();
-    let mut side = RustSide::new();
-    let began = Instant::now();
-    let found = compare::run(seed, calls, &mut ours, &mut side);
-    table(&side);
-    let took = began.elapsed().as_secs_f64();
-    let many = compare::compared(&side);
-    match found {
-        None => {
-            println!("differential: {many} calls compared, 0 differences (seed {seed}, ours {}, {took:.1} s)", ours.place());
-            true
-        }
-        Some(d) => {
-            d.print();
-            println!("differential: A DIFFERENCE after {many} calls (seed {seed})");
-            false
-        }
+fn speed(part: &str) -> bool {
+    match part {
+        "domain" => domain::speed(),
+        _ => usage(),
     }
 }
 
-/// The comparison must find a fault that is made on purpose, and cut it down to the call and the domain that it is about.
-fn finds_a_fault() -> bool {
-    let mut ours = Ours::start();
-    let mut side = RustSide::new();
-    side.fault = true;
-    let found = compare::run(1, 1_000_000, &mut ours, &mut side);
-    match found {
-        Some(d) if d.script.len() <= 2 && script::name(d.script[d.at].op) == "contains" => {
-            println!("differential: a fault made on purpose, `contains` at offset 64, is found and cut down to {} records", d.script.len());
-            true
-        }
-        Some(d) => {
-            d.print();
-            println!("differential: a fault made on purpose is found, and not cut down");
-            false
-        }
-        None => {
-            println!("differential: A FAULT MADE ON PURPOSE IS NOT FOUND");
-            false
-        }
+/// The part that is named, or all of them in turn.
+fn each(word: Option<&String>, run: impl Fn(&str) -> bool) -> bool {
+    match word {
+        Some(part) => run(part),
+        None => PARTS.iter().all(|part| run(part)),
     }
-}
-
-fn record(file: &str, frames: u64) {
-    let mut rnd = generate::Random::new(20261115);
-    let mut side = RustSide::new();
-    let mut out = Vec::new();
-    let mut bytes = 0;
-    for _ in 0..frames {
-        let (records, rust) = generate::frame(&mut rnd, &mut side);
-        out.extend_from_slice(&script::frame(&records));
-        out.extend_from_slice(&rust);
-        bytes += rust.len();
-    }
-    std::fs::write(file, &out).expect("the file is written");
-    println!("{} records, {bytes} bytes, 0 differ", frames * 256);
 }
 
 fn main() {
     let words: Vec<String> = std::env::args().skip(1).collect();
     let good = match words.first().map(String::as_str) {
-        Some("quick") => finds_a_fault() && compare(7, 5_000_000),
-        Some("long") => compare(number(words.get(2), 11), number(words.get(1), 20_000_000)),
-        Some("record") => {
-            record(words.get(1).expect("a file"), number(words.get(2), 4));
-            true
-        }
+        Some("quick") => each(words.get(1), quick),
+        Some("long") => each(words.get(1), |part| long(part, number(words.get(2)), number(words.get(3)).unwrap_or(11))),
+        Some("record") => record(words.get(1).unwrap_or_else(|| usage()), words.get(2).unwrap_or_else(|| usage()), number(words.get(3)).unwrap_or(4)),
         #[cfg(feature = "linked")]
-        Some("speed") => speed::run(),
-        _ => {
-            eprintln!("usage: differential quick | long [CALLS [SEED]] | record FILE [FRAMES] | speed");
-            std::process::exit(2);
-        }
+        Some("speed") => each(words.get(1), speed),
+        _ => usage(),
     };
     std::process::exit(if good { 0 } else { 1 });
 }

@@ -1,33 +1,41 @@
 //! Our side: the proved calls, linked into this process or behind a pipe.
 
-use crate::script::{FRAME, RECORD};
 use std::io::{Read, Write};
 use std::process::{Child, Command, Stdio};
 
+#[cfg(feature = "linked")]
+pub type Call = unsafe extern "C" fn(*const u8, usize, *mut u8, usize) -> usize;
+
+/// What reaches one part's calls: the program behind the pipe, or the function that it is built on, with the room that its answers to a frame need.
+pub struct Part {
+    pub program: &'static str,
+    #[cfg_attr(not(feature = "linked"), allow(dead_code))]
+    pub room: usize,
+    #[cfg(feature = "linked")]
+    pub linked: Call,
+}
+
 pub enum Ours {
     #[cfg(feature = "linked")]
-    Linked,
+    Linked(Call, usize),
     Pipe(Child),
 }
 
-#[cfg(feature = "linked")]
-unsafe extern "C" {
-    fn probe_domain(script: *const u8, script_len: usize, out: *mut u8, out_len: usize) -> usize;
-}
-
 impl Ours {
-    /// Linked where this was built so; else the program that PROBE_PIPE names, word by word.
-    pub fn start() -> Ours {
-        #[cfg(feature = "linked")]
-        {
-            if std::env::var_os("PROBE_PIPE").is_none() {
-                return Ours::Linked;
-            }
-        }
-        let line = std::env::var("PROBE_PIPE").expect("PROBE_PIPE names the program behind the pipe");
-        let mut words = line.split_whitespace();
-        let child = Command::new(words.next().expect("PROBE_PIPE is empty"))
-            .args(words)
+    /// Linked where this was built so; else the part's program in the folder PROBE_BIN, behind the words of PROBE_RUN if those are needed to run it.
+    pub fn start(part: &Part) -> Ours {
+        let Some(folder) = std::env::var_os("PROBE_BIN") else {
+            #[cfg(feature = "linked")]
+            return Ours::Linked(part.linked, part.room);
+            #[cfg(not(feature = "linked"))]
+            panic!("PROBE_BIN names the folder of the programs");
+        };
+        let program = std::path::Path::new(&folder).join(part.program);
+        let line = std::env::var("PROBE_RUN").unwrap_or_default();
+        let mut words: Vec<std::ffi::OsString> = line.split_whitespace().map(Into::into).collect();
+        words.push(program.into());
+        let child = Command::new(&words[0])
+            .args(&words[1..])
             .stdin(Stdio::piped())
             .stdout(Stdio::piped())
             .spawn()
@@ -38,19 +46,18 @@ impl Ours {
     pub fn place(&self) -> &'static str {
         match self {
             #[cfg(feature = "linked")]
-            Ours::Linked => "linked into this process",
+            Ours::Linked(..) => "linked into this process",
             Ours::Pipe(_) => "behind a pipe",
         }
     }
 
     /// The answers to a frame; `size` is how many bytes they take.
     pub fn run(&mut self, frame: &[u8], size: usize) -> Vec<u8> {
-        assert!(frame.len() == FRAME * RECORD);
         match self {
             #[cfg(feature = "linked")]
-            Ours::Linked => {
-                let mut out = vec![0u8; 65536];
-                let n = unsafe { probe_domain(frame.as_ptr(), frame.len(), out.as_mut_ptr(), out.len()) };
+            Ours::Linked(call, room) => {
+                let mut out = vec![0u8; *room];
+                let n = unsafe { call(frame.as_ptr(), frame.len(), out.as_mut_ptr(), out.len()) };
                 assert!(n <= out.len());
                 out.truncate(n);
                 let _ = size;

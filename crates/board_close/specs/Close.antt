@@ -19,15 +19,7 @@ use Rattle.board.specs.declared.Row.{Row}
 use Rattle.board.specs.declared.Board.{Board}
 use Rattle.board.specs.declared.Closed.{Closed}
 use Rattle.board.specs.declared.Settled.{Settled}
-use Rattle.board_close.specs.declared.Kind.{Kind}
 use Rattle.board_close.specs.declared.Shut.{Shut}
-use Rattle.board_close.specs.declared.Kind.the-variants as kind
-
-abbrev pub kindOf : Kind → rules.Kind
-kindOf kind.Remove = rules.remove
-kindOf kind.Assign = rules.assign
-kindOf kind.Below = rules.below
-kindOf kind.Above = rules.above
 
 -- what a closing leaves of a domain
 abbrev pub left : rules.Kind → ℤ → BitDomain → BitDomain

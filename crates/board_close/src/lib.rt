@@ -10,25 +10,19 @@ ghost use mathlib.Core.Bool.{true};
 ghost use Rattle.rules.specs.Board.{remove, assign, below, above};
 ghost use Rattle.domain.specs.Set.{well};
 ghost use Rattle.board.specs.Well.{wellBoard};
-ghost use Rattle.board_close.specs.Close.{kindOf, left, shutOf, closeOf, resetOf, changedOf};
+ghost use Rattle.closing.specs.Kinds.{kindOf};
+ghost use Rattle.board_close.specs.Close.{left, shutOf, closeOf, resetOf, changedOf};
 use board::Board;
 use board::Closed;
 use board::Row;
 use board::Settled;
+use closing::Kind;
 use domain::BitDomain;
 use domain::Outcome;
 use domain::Told;
 use rules::Refusal;
 use rules::Value;
 use rules::Variable;
-
-// 01's four kinds of closing.
-pub enum Kind {
-    Remove,
-    Assign,
-    Below,
-    Above,
-}
 
 // What a closing leaves of a domain.
 pub fn narrowed(d: BitDomain, kind: Kind, v: Value) -> BitDomain

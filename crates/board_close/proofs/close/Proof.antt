@@ -1,7 +1,7 @@
 -- `board_close::close` meets its contract: `look` tells a board that isn't well formed, an id that isn't registered, and the row of one that is. Assumes nothing.
 use mathlib.Core.Logic.{⊎-elim}
 use native.Mathlib.Omega.{arith}
-use Rattle.board_close.specs.Close.{kindOf}
+use Rattle.closing.specs.Kinds.{kindOf}
 use Rattle.board_close.proofs.Closing.{row-well, closed-known, closed-unknown, closed-broken}
 use borrow.Author.Needs.{needs}
 use Rattle.board_close.proofs.close.Statement.{statement}

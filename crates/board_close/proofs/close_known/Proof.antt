@@ -12,7 +12,8 @@ use Rattle.board.specs.declared.Closed.{Closed}
 use Rattle.board.proofs.Seats.{seat-least}
 use Rattle.board.proofs.WellLaws.{look-seat}
 use Rattle.board.proofs.ViewLaws.{mapped, sound}
-use Rattle.board_close.specs.Close.{kindOf, closeOf}
+use Rattle.closing.specs.Kinds.{kindOf}
+use Rattle.board_close.specs.Close.{closeOf}
 use Rattle.board_close.proofs.Closing.{row-well, closed-known, closed-unknown}
 use Rattle.board_close.proofs.Theorems.{close-obeys}
 use borrow.Author.Needs.{needs}

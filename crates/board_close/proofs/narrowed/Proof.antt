@@ -1,7 +1,8 @@
 -- `board_close::narrowed` meets its contract: each kind is answered by the call of `domain` that does it. Assumes nothing.
 use mathlib.Core.Path.{sym, ap, _∙_}
-use Rattle.board_close.specs.Close.{kindOf, left}
-use Rattle.board_close.specs.declared.Kind.{Kind}
+use Rattle.closing.specs.Kinds.{kindOf}
+use Rattle.board_close.specs.Close.{left}
+use Rattle.closing.specs.declared.Kind.{Kind}
 use borrow.Author.Needs.{needs}
 use Rattle.board_close.proofs.narrowed.Statement.{statement}
 use Rattle.board_close.proofs.narrowed.Tie as tie

@@ -4,7 +4,7 @@ use mathlib.Core.Bool.{not}
 use lib.Dec.{eqb}
 use Rattle.mask.specs.Val.{val}
 use Rattle.domain.specs.declared.BitDomain.{BitDomain}
-use Rattle.board_close.specs.Close.{kindOf}
+use Rattle.closing.specs.Kinds.{kindOf}
 use Rattle.board_close.proofs.Closing.{took}
 use borrow.Author.Needs.{needs}
 use Rattle.board_close.proofs.shut_row.Statement.{statement}

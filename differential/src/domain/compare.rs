@@ -1,9 +1,10 @@
 //! The comparison: frame by frame, byte by byte; and on a difference, the shortest script that still shows one.
 
-use crate::generate::{self, Random};
+use super::generate;
+use super::rust_side::RustSide;
+use super::script::*;
 use crate::ours::Ours;
-use crate::rust_side::RustSide;
-use crate::script::*;
+use crate::random::Random;
 
 pub struct Difference {
     pub script: Vec<Record>,

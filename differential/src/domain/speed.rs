@@ -1,6 +1,6 @@
 //! Times of the checked calls and of the original's, in one process, over the same inputs: minima of many runs, per call.
 
-use crate::generate::Random;
+use crate::random::Random;
 use selen_oracle::variables::domain::bitset_domain::BitSetDomain;
 use std::hint::black_box;
 use std::time::Instant;

@@ -1,7 +1,7 @@
 //! Where the paper decides and the Rust doesn't: what is well formed, and every deviation that it names, by rule. Nothing else
 //! in the comparison knows of a deviation.
 
-use crate::script::Record;
+use super::script::Record;
 
 /// A lone domain is well formed if it has 1 to 128 universe values and no mask bit beyond them, or is one of the two invalid
 /// pairs with mask zero. Said here in u128 and i64, not as either side computes it.

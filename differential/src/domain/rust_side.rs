@@ -1,8 +1,8 @@
 //! The Rust: the original's domains in registers, run record by record. Where the paper's rule stands in its place, the answer
 //! is what the paper says, and the rule is counted.
 
-use crate::paper::{self, Inputs, Rule};
-use crate::script::*;
+use super::paper::{self, Inputs, Rule};
+use super::script::*;
 use selen_oracle::variables::domain::bitset_domain::{BitSetDomain, BitSetDomainState};
 
 /// A domain of the original, or fields that it can't hold.
