@@ -5,11 +5,15 @@
 //! differential record PART FILE [FRAMES]        a sample of scripts with the Rust's answers, for the replaying programs
 //! differential speed [PART]                     times of both sides (built with the feature `linked`)
 
+mod board;
 mod domain;
+mod hand;
 mod ours;
 mod random;
+mod sparse;
+mod wave;
 
-const PARTS: [&str; 1] = ["domain"];
+const PARTS: [&str; 5] = ["domain", "board", "sparse", "hand", "wave"];
 
 fn number(word: Option<&String>) -> Option<u64> {
     word.map(|w| w.replace(['_', ','], "").parse().expect("a number"))
@@ -24,6 +28,10 @@ fn usage() -> ! {
 fn quick(part: &str) -> bool {
     match part {
         "domain" => domain::quick(),
+        "board" => board::quick(),
+        "sparse" => sparse::quick(),
+        "hand" => hand::quick(),
+        "wave" => wave::quick(),
         _ => usage(),
     }
 }
@@ -31,6 +39,10 @@ fn quick(part: &str) -> bool {
 fn long(part: &str, calls: Option<u64>, seed: u64) -> bool {
     match part {
         "domain" => domain::long(calls, seed),
+        "board" => board::long(calls, seed),
+        "sparse" => sparse::long(calls, seed),
+        "hand" => hand::long(calls, seed),
+        "wave" => wave::long(calls, seed),
         _ => usage(),
     }
 }
@@ -38,6 +50,8 @@ fn long(part: &str, calls: Option<u64>, seed: u64) -> bool {
 fn record(part: &str, file: &str, frames: u64) -> bool {
     match part {
         "domain" => domain::record(file, frames),
+        "board" => board::record(file, frames),
+        "sparse" => sparse::record(file, frames),
         _ => usage(),
     }
     true
@@ -47,6 +61,10 @@ fn record(part: &str, file: &str, frames: u64) -> bool {
 fn speed(part: &str) -> bool {
     match part {
         "domain" => domain::speed(),
+        "board" => board::speed(),
+        "sparse" => sparse::speed(),
+        "hand" => hand::speed(),
+        "wave" => wave::speed(),
         _ => usage(),
     }
 }

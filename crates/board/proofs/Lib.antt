@@ -3,4 +3,5 @@ pub mod Seats
 pub mod WellLaws
 pub mod RowLaws
 pub mod ViewLaws
+pub mod WordLaws
 pub mod LookLaws

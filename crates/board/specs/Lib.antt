@@ -3,3 +3,4 @@ pub mod Well
 pub mod View
 pub mod Answers
 pub mod Obeys
+pub mod Worded

@@ -22,7 +22,7 @@ pub enum Sought {
 }
 
 // The one check, and the domain of an id. An id that isn't registered is answered for as a domain of no chutes is.
-pub fn domain_of(rows: [Row; 64], count: usize, ws: &Saved, marks: usize, id: Variable) -> Sought
+fn domain_of(rows: [Row; 64], count: usize, ws: &Saved, marks: usize, id: Variable) -> Sought
     ensures { λ r. ⌜ r ≡ soughtOf rows count (now (ws .entry)) marks (id .0) ⌝ }
 {
     let at = board::look(rows, count, ws, marks, id);

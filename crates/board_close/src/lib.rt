@@ -1,60 +1,31 @@
 // The closings of a board's destinations, one by one, and its `domains_changed` flag.
 //
 // remove_value, assign_variable, remove_below, remove_above, reset_changed_flag, domains_changed;
-// narrowed, close, close_known: what they share, and what a batch calls
+// close: the four closings by their kind. `inner` closes a row without a check, for callers that have made it
 //
 // A call checks the board once, and hands back one that isn't well formed as it came, refused by number. A closing answers
 // whether the domain lost a chute, and sets the flag if it did; of an id that isn't registered it answers no.
 ghost use mathlib.Core.Path.{_≡_};
-ghost use mathlib.Core.Bool.{true};
 ghost use Rattle.rules.specs.Board.{remove, assign, below, above};
-ghost use Rattle.domain.specs.Set.{well};
-ghost use Rattle.board.specs.Well.{wellBoard};
 ghost use Rattle.closing.specs.Kinds.{kindOf};
-ghost use Rattle.board_close.specs.Close.{left, shutOf, closeOf, resetOf, changedOf};
+ghost use Rattle.board_close.specs.Close.{closeOf, resetOf, changedOf};
 use board::Board;
 use board::Closed;
 use board::Row;
 use board::Settled;
 use closing::Kind;
-use domain::BitDomain;
 use domain::Outcome;
 use domain::Told;
 use rules::Refusal;
 use rules::Value;
 use rules::Variable;
 
-// What a closing leaves of a domain.
-pub fn narrowed(d: BitDomain, kind: Kind, v: Value) -> BitDomain
-    requires { ⌜ well d ≡ true ⌝ }
-    ensures { λ r. ⌜ r ≡ left (kindOf kind) (v .0) d ⌝ }
-{
-    match kind {
-        Kind::Remove => domain::inner::without(d, v),
-        Kind::Assign => domain::inner::only(d, v),
-        Kind::Below => domain::inner::from(d, v),
-        Kind::Above => domain::inner::upto(d, v),
-    }
-}
+pub mod inner;
 
 // A row after a closing, and whether that took a chute.
 pub struct Shut {
     pub row: Row,
     pub yes: bool,
-}
-
-fn shut_row(row: Row, kind: Kind, v: Value) -> Shut
-    requires { ⌜ well (row .domain) ≡ true ⌝ }
-    ensures { λ r. ⌜ r ≡ shutOf (kindOf kind) (v .0) row ⌝ }
-{
-    let d = row.domain;
-    let e = narrowed(d, kind, v);
-    let mut next = row;
-    next.domain = e;
-    Shut {
-        row: next,
-        yes: !mask::same(e.mask, d.mask),
-    }
 }
 
 // The row of the destination is closed by v, and the flag set if that took a chute.
@@ -69,7 +40,7 @@ pub fn close(b: Board, kind: Kind, id: Variable, v: Value) -> Closed
     let mut yes = false;
     if at < board::NOWHERE {
         let row = rows[at];
-        let s = shut_row(row, kind, v);
+        let s = inner::shut_row(row, kind, v);
         let next = s.row;
         rows[at] = next;
         yes = s.yes;
@@ -87,36 +58,6 @@ pub fn close(b: Board, kind: Kind, id: Variable, v: Value) -> Closed
         } else {
             Told::Is(yes)
         },
-    }
-}
-
-// The same without the check, for callers that know the board to be well formed.
-pub fn close_known(b: Board, kind: Kind, id: Variable, v: Value) -> Closed
-    requires { ⌜ wellBoard b ≡ true ⌝ }
-    ensures { λ r. ⌜ (r ≡ closeOf (kindOf kind) b id v) × (wellBoard (r .board) ≡ true) ⌝ }
-{
-    let mut rows = b.rows;
-    let count = b.count;
-    let saved = b.saved;
-    let marks = b.marks;
-    let at = board::seat_of(rows, count, id);
-    let mut yes = false;
-    if at < board::NOWHERE {
-        let row = rows[at];
-        let s = shut_row(row, kind, v);
-        let next = s.row;
-        rows[at] = next;
-        yes = s.yes;
-    }
-    Closed {
-        board: Board {
-            rows,
-            count,
-            saved,
-            marks,
-            changed: b.changed | yes,
-        },
-        answer: Told::Is(yes),
     }
 }
 

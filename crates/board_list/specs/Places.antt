@@ -1,7 +1,8 @@
 -- Where the ids of a list stand, or why the list is refused.
+use mathlib.Core.Path.{_≡_}
 use mathlib.Core.List.{List, [], map}
-use Prim.Native.Nat.{ℕ}
-use lib.ListN.{length, take}
+use Prim.Native.Nat.{ℕ, _<_}
+use lib.ListN.{length, getD, take}
 use lib.Seq.{sets}
 use Rattle.rules.specs.Board as rules
 use Rattle.rules.specs.Refusals.{placeOf}
@@ -9,6 +10,10 @@ use Rattle.domain.specs.declared.Outcome.{Outcome}
 use Rattle.domain.specs.declared.Outcome.the-variants as outcome
 use Rattle.board.specs.Rows.{seatIn}
 use Rattle.board.specs.View.{rowsFrom}
+
+-- a list begins with the first n ids
+abbrev pub Begins : (ℕ → ℕ) → ℕ → List ℕ → Type 0
+Begins id n l = (k : ℕ) → k < n → getD l k 0 ≡ id k
 
 -- the verdict goes by ids alone, so it is that of rows that hold nothing
 abbrev pub verdictOf : (ℕ → ℕ) → ℕ → List ℕ → rules.Verdict

@@ -6,13 +6,13 @@ ghost use Prim.Native.Nat.{_≤_};
 ghost use lib.ListN.{getD};
 ghost use Rattle.board.specs.Rows.{idAt, seatIn};
 ghost use Rattle.board.specs.Well.{differ};
-ghost use Rattle.board_list.specs.Places.{placed, placesOf};
+ghost use Rattle.board_list.specs.Places.{Begins, placed, placesOf};
 use board::Row;
 use domain::Outcome;
 use rules::Refusal;
 
 // Where an id stands among the first `count`, tried one by one.
-fn find(ids: &[u32; 64], count: usize, id: u32) -> usize
+pub fn find(ids: &[u32; 64], count: usize, id: u32) -> usize
     requires { ⌜ count ≤ 64 ⌝ }
     ensures { λ r. ⌜ r ≡ seatIn (λ j. getD (now (ids .entry)) j 0) count id ⌝ }
 {
@@ -27,7 +27,7 @@ fn find(ids: &[u32; 64], count: usize, id: u32) -> usize
 }
 
 // The same, where it is likely to stand at `next`.
-fn find_from(ids: &[u32; 64], count: usize, next: usize, id: u32) -> usize
+pub fn find_from(ids: &[u32; 64], count: usize, next: usize, id: u32) -> usize
     requires { ⌜ (count ≤ 64) × (differ (λ j. getD (now ids) j 0) count ≡ true) ⌝ }
     ensures { λ r. ⌜ r ≡ seatIn (λ j. getD (now (ids .entry)) j 0) count id ⌝ }
 {
@@ -68,10 +68,10 @@ fn places(ids: &[u32; 64], count: usize, list: &[u32], at: &mut [usize; 64]) -> 
     Outcome::Done
 }
 
-// The same of a board's rows.
-pub fn seats(rows: [Row; 64], count: usize, list: &[u32], at: &mut [usize; 64]) -> Outcome
-    requires { ⌜ (count ≤ 64) × (differ (idAt rows) count ≡ true) ⌝ }
-    ensures { λ r. ⌜ placed r (now (at .exit)) ≡ placesOf (idAt rows) count (now (list .entry)) (now (at .entry)) ⌝ }
+// The ids of the first `count` rows, to be lent: rows can't be.
+pub fn ids_of(rows: [Row; 64], count: usize) -> [u32; 64]
+    requires { ⌜ count ≤ 64 ⌝ }
+    ensures { λ r. ⌜ Begins (idAt rows) count r ⌝ }
 {
     let mut ids = [0u32; 64];
     let mut i = 0;
@@ -80,5 +80,14 @@ pub fn seats(rows: [Row; 64], count: usize, list: &[u32], at: &mut [usize; 64]) 
         ids[i] = row.id.0;
         i += 1;
     }
+    ids
+}
+
+// The same of a board's rows.
+pub fn seats(rows: [Row; 64], count: usize, list: &[u32], at: &mut [usize; 64]) -> Outcome
+    requires { ⌜ (count ≤ 64) × (differ (idAt rows) count ≡ true) ⌝ }
+    ensures { λ r. ⌜ placed r (now (at .exit)) ≡ placesOf (idAt rows) count (now (list .entry)) (now (at .entry)) ⌝ }
+{
+    let ids = ids_of(rows, count);
     places(&ids, count, list, at)
 }

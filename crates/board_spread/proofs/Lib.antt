@@ -3,3 +3,4 @@ pub mod Gathers
 pub mod Holds
 pub mod Spreading
 pub mod Theorems
+pub mod Worded

@@ -51,7 +51,7 @@ module _ (b : Board) (is : List ℕ) where
   unfolding spreadOf
   spread-broken w = rw w
 
-  spread-well : wellBoard b ≡ true → spreadOf b is ≡ handed b (prunedOf (b .rows) (b .count) is)
+  pub spread-well : wellBoard b ≡ true → spreadOf b is ≡ handed b (prunedOf (b .rows) (b .count) is)
   unfolding spreadOf
   spread-well w = rw w
 

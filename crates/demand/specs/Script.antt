@@ -1,7 +1,7 @@
 -- The board's public calls as a program makes them, and a run of them, each on the board as the last one handed it back.
 -- A call is added by a constructor and a line in each of the three definitions that follow it, and its theorem in proofs/Demand.antt.
 use mathlib.Core.Bool.{true}
-use mathlib.Core.List.{List, [], _∷_}
+use mathlib.Core.List.{List, [], _∷_, map}
 use Prim.Native.Nat.{ℕ}
 use Rattle.rules.specs.Sets.{Chutes}
 use Rattle.rules.specs.Board as rules
@@ -12,7 +12,9 @@ use Rattle.domain.specs.Calls.{newOf}
 use Rattle.domain_values.specs.Calls.{fromValuesOf}
 use Rattle.board.specs.Obeys.{toldOf, outcomeOf}
 use Rattle.board.specs.declared.Board.{Board}
+use Rattle.closing.specs.declared.Closing.{Closing}
 use Rattle.board_close.specs.Close.{closeOf, resetOf, changedOf}
+use Rattle.batch.specs.Batch.{closingOf, countedOf, batchOf}
 use Rattle.board_enter.specs.Enter.{enterOf}
 use Rattle.board_spread.specs.Spread.{spreadOf, pairOf}
 use Rattle.board_ask.specs.Questions.{domainSizeOf, isAssignedOf, assignedValueOf, isInconsistentOf, getBoundsOf, getValuesOf}
@@ -25,6 +27,7 @@ use Rattle.trial.specs.Calls.{Step}
 -- `propagate` is propagate_alldiff, and `variables` a whole walk of its cursor. `close` is remove_value, assign_variable, remove_below and remove_above; `add` and `addValues` are add_variable and add_variable_with_values
 pub data Made : Type 0 where
   close : rules.Kind → Variable → Value → Made
+  batch : List Closing → Made
   add : Variable → Value → Value → Made
   addValues : Variable → Chutes → Made
   propagate ready : List ℕ → Made
@@ -34,6 +37,7 @@ pub data Made : Type 0 where
 -- in the words of the rules
 abbrev pub callOf : Made → rules.Call
 callOf (close k id v) = rules.close (record { kind = k; id = id .0; value = v .0 })
+callOf (batch cs) = rules.batch (map closingOf cs)
 callOf (add id lo hi) = rules.register (id .0) (setOf (newOf true lo hi))
 callOf (addValues id vs) = rules.register (id .0) (setOf (fromValuesOf vs))
 callOf mark = rules.mark
@@ -54,6 +58,7 @@ callOf (getDomainValues id) = rules.ask (rules.valuesOf (id .0))
 -- the board that it hands back; a question hands back none, and the board stays
 abbrev pub boardOf : Made → Board → Board
 boardOf (close k id v) b = closeOf k b id v .board
+boardOf (batch cs) b = batchOf b cs .board
 boardOf (add id lo hi) b = enterOf b id (newOf true lo hi) .board
 boardOf (addValues id vs) b = enterOf b id (fromValuesOf vs) .board
 boardOf mark b = markOf b .board
@@ -74,6 +79,7 @@ boardOf (getDomainValues id) b = b
 -- what it answers, in the words of the rules
 abbrev pub answerOf : Made → Board → rules.Answer
 answerOf (close k id v) b = toldOf (closeOf k b id v .answer)
+answerOf (batch cs) b = countedOf (batchOf b cs .answer)
 answerOf (add id lo hi) b = outcomeOf (enterOf b id (newOf true lo hi) .answer)
 answerOf (addValues id vs) b = outcomeOf (enterOf b id (fromValuesOf vs) .answer)
 answerOf mark b = outcomeOf (markOf b .answer)

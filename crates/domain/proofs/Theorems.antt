@@ -11,7 +11,7 @@ use lib.Dec.{T, leb}
 use lib.IntN.{ℤ, pos, _+ℤ_, _-ℤ_}
 use lib.Signed.{ltZ}
 use borrow.Author.Tests.{ne-eqb, lt-ltb, leb-true}
-use Rattle.mask.specs.Val.{val, offsets, maskOf, Fit, val-mask, mask-val}
+use Rattle.mask.specs.Val.{val, offsets, maskOf, Fit, mask-fit, val-mask, mask-val}
 use Rattle.mask.specs.Sets.{In, members, members-ascend, members-none, Ascends, fits-in, same-set}
 use Rattle.mask.specs.declared.Mask.{Mask}
 use Rattle.offset.specs.Places.{spanOf, natural}
@@ -230,8 +230,24 @@ new-well all a b = go (ltZ (b .0) (a .0)) refl
     go true e = between-well all (b .0) (a .0) (less-asym (b .0) (a .0) e)
     go false e = between-well all (a .0) (b .0) e
 
+-- its words are words
+pub new-fit : (all : Bool) (a b : Value) → Fit (newOf all a b .mask)
+unfolding newOf betweenOf
+new-fit all a b = go (ltZ (b .0) (a .0)) (narrow (b .0) (a .0)) (narrow (a .0) (b .0))
+  where
+    go : (t x y : Bool) → Fit (cond t (cond x (filled all (b .0) (a .0)) invalid) (cond y (filled all (a .0) (b .0)) invalid) .mask)
+    go true true y = mask-fit (bitsOf (b .0) (cond all (range (b .0) (spanOf (b .0) (a .0))) []))
+    go true false y = mask-fit (bitsOf (pos 1) [])
+    go false x true = mask-fit (bitsOf (a .0) (cond all (range (a .0) (spanOf (a .0) (b .0))) []))
+    go false x false = mask-fit (bitsOf (pos 1) [])
+
 pub full-set : (lo hi : ℤ) → narrow lo hi ≡ true → setOf (filled true lo hi) ≡ range lo (spanOf lo hi)
 full-set lo hi n = values-bits lo (spanOf lo hi) (range lo (spanOf lo hi)) (λ x h. h) (leb-true (spanOf lo hi) offsets n) (range-ascend lo (spanOf lo hi))
+
+-- ends in order, near enough to each other: all values from one to the other
+pub new-set : (a b : Value) → ltZ (b .0) (a .0) ≡ false → narrow (a .0) (b .0) ≡ true → setOf (newOf true a b) ≡ range (a .0) (spanOf (a .0) (b .0))
+unfolding newOf betweenOf
+new-set a b e n = rw (e, n) (full-set (a .0) (b .0) n)
 
 pub bare-set : (lo hi : ℤ) → setOf (filled false lo hi) ≡ []
 unfolding valuesOf bitsOf

@@ -6,10 +6,9 @@
 // 1538 bytes.
 ghost use mathlib.Core.Path.{_≡_};
 ghost use Prim.Native.Nat.{_+_, _-_, _<_, _≤_};
-ghost use lib.IntN.{ℤ, pos, _+ℤ_};
+ghost use lib.IntN.{ℤ};
 ghost use lib.ListN.{length, take, drop};
 ghost use Rattle.decimal.specs.Put.{putOf};
-ghost use Rattle.mask.specs.Val.{offsets};
 ghost use Rattle.domain.specs.Set.{valuesOf};
 ghost use Rattle.domain_text.specs.Text.{listed, firstRun, textOf, sizes, writeTextOf};
 use domain::BitDomain;
@@ -17,13 +16,7 @@ use domain::Counted;
 use mask::Mask;
 use rules::Refusal;
 
-// The value at an offset: in an i64 it always fits.
-fn value(min: i32, k: usize) -> i64
-    requires { ⌜ k < offsets ⌝ }
-    ensures { λ r. ⌜ r ≡ min +ℤ pos k ⌝ }
-{
-    min as i64 + k as i64
-}
+pub mod inner;
 
 // The first run of values: how many it has, and what is left without them.
 struct Run {
@@ -65,7 +58,7 @@ fn digits(min: i32, m: Mask) -> usize
             return sum;
         }
         let k = mask::lowest(left);
-        sum += decimal::size(value(min, k));
+        sum += decimal::size(inner::value(min, k));
         left = mask::rest(left);
     }
 }
@@ -97,12 +90,12 @@ fn put_values(min: i32, m: Mask, n: usize, out: &mut [u8], at: usize) -> usize
     if n == 0 {
         return at;
     }
-    let mut e = decimal::put(value(min, mask::lowest(m)), out, at);
+    let mut e = decimal::put(inner::value(min, mask::lowest(m)), out, at);
     let mut left = mask::rest(m);
     let mut i: usize = 1;
     while i < n {
         out[e] = b',';
-        e = decimal::put(value(min, mask::lowest(left)), out, e + 1);
+        e = decimal::put(inner::value(min, mask::lowest(left)), out, e + 1);
         left = mask::rest(left);
         i += 1;
     }

@@ -22,12 +22,12 @@ use Rattle.mask.specs.Tests.{same-test}
 use Rattle.mask.specs.declared.Mask.{Mask}
 use Rattle.offset.specs.Places.{natural, spanOf}
 use Rattle.offset.specs.Universe.{le-span, span-le, value-le}
-use Rattle.rules.specs.Sets.{ascending, Chutes, has, every}
+use Rattle.rules.specs.Sets.{ascending, Chutes, has, keep, every}
 use Rattle.rules.proofs.SetLaws.{has-head}
 use Rattle.rules.proofs.Tests.{and-left, and-right, is-true, true-is}
 use Rattle.rules.specs.declared.Refusal.{Refusal}
 use Rattle.rules.specs.declared.Refusal.the-variants.{Broken, NoRoom}
-use Rattle.domain.specs.Set.{valuesOf, setOf, width, well, bitsOf}
+use Rattle.domain.specs.Set.{valuesOf, setOf, range, width, well, bitsOf}
 use Rattle.domain.specs.Calls.{invalid, narrow}
 use Rattle.domain.specs.declared.BitDomain.{BitDomain}
 use Rattle.domain.specs.declared.Counted.the-variants as counted
@@ -267,6 +267,16 @@ from-well (x ∷ s) = go (narrow lo hi) refl
     go : (b : Bool) → narrow lo hi ≡ b → well (cond b (among lo hi (x ∷ s)) invalid) ≡ true
     go true t = among-well lo hi (x ∷ s) w t some-span
     go false t = invalid-well
+
+-- its words are words
+pub from-fit : (vs : Chutes) → Fit (fromValuesOf vs .mask)
+unfolding fromValuesOf
+from-fit [] = mask-fit (bitsOf (pos 0) [])
+from-fit (x ∷ s) = go (narrow (smallestOf (x ∷ s)) (largestOf (x ∷ s)))
+  where
+    go : (b : Bool) → Fit (cond b (among (smallestOf (x ∷ s)) (largestOf (x ∷ s)) (x ∷ s)) invalid .mask)
+    go true = mask-fit (bitsOf (smallestOf (x ∷ s)) (keep (λ y. has y (x ∷ s)) (range (smallestOf (x ∷ s)) (spanOf (smallestOf (x ∷ s)) (largestOf (x ∷ s))))))
+    go false = mask-fit (bitsOf (pos 1) [])
 
 -- exactly the values, where they are near enough to each other
 pub from-holds : (vs : Chutes) → narrow (smallestOf vs) (largestOf vs) ≡ true → (y : ℤ) → has y (setOf (fromValuesOf vs)) ≡ has y vs

@@ -38,26 +38,19 @@ pub fn exchange(ind: &mut [u32], val: &mut [u32], v1: u32, v2: u32)
     ind[a2] = i1;
 }
 
-// Are the two inverse over their first n cells?
+// Are the two inverse over their first n cells? Each number is followed to its place and back: n numbers below n that all differ leave none out,
+// so the way from the places to the numbers need not be tried.
 pub fn is_inverse(ind: &[u32], val: &[u32], n: u32) -> bool
     requires { ⌜ (n ≤ length (now ind)) × (n ≤ length (now val)) ⌝ }
     ensures { λ r. ⌜ r ≡ inverseB (now (ind .entry)) (now (val .entry)) n ⌝ }
 {
     let mut i = 0u32;
     while i < n {
-        let p = i as usize;
-        let a = ind[p];
-        let b = val[p];
+        let a = ind[i as usize];
         if a >= n {
             return false;
         }
-        if b >= n {
-            return false;
-        }
         if val[a as usize] != i {
-            return false;
-        }
-        if ind[b as usize] != i {
             return false;
         }
         i += 1;

@@ -15,7 +15,7 @@ pub fn least(a: usize, b: usize) -> usize
 }
 
 // Writes out the first `shown` cells, a word for each.
-fn show_cells(cells: &[i32; 160], shown: usize, out: &mut [u8], at: usize)
+pub fn show_cells(cells: &[i32; 160], shown: usize, out: &mut [u8], at: usize)
     requires { ⌜ (shown ≤ 160) × (at + 8 * shown ≤ length (now out)) ⌝ }
     ensures { λ _. ⌜ length (now (out .exit)) ≡ length (now (out .entry)) ⌝ }
 {

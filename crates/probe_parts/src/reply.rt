@@ -35,7 +35,7 @@ pub struct Reply {
     pub hi: u64,
 }
 
-fn plain(kind: u64) -> Reply {
+pub fn plain(kind: u64) -> Reply {
     Reply {
         kind,
         number: 0,
@@ -50,7 +50,7 @@ pub fn none() -> Reply {
     plain(0)
 }
 
-fn refused(r: Refusal) -> Reply {
+pub fn refused(r: Refusal) -> Reply {
     Reply {
         kind: 255,
         number: r.number() as u64,
@@ -61,7 +61,7 @@ fn refused(r: Refusal) -> Reply {
     }
 }
 
-fn valued(kind: u64, v: Value) -> Reply {
+pub fn valued(kind: u64, v: Value) -> Reply {
     let mut r = plain(kind);
     r.value = wire::bits(v.0);
     r
@@ -157,7 +157,7 @@ pub fn yielded(y: Yielded) -> Reply {
 }
 
 // Four words, one behind the other.
-fn put_four(out: &mut [u8], at: usize, a: u64, b: u64, c: u64, d: u64)
+pub fn put_four(out: &mut [u8], at: usize, a: u64, b: u64, c: u64, d: u64)
     requires { ⌜ at + 32 ≤ length (now out) ⌝ }
     ensures { λ _. ⌜ length (now (out .exit)) ≡ length (now (out .entry)) ⌝ }
 {

@@ -17,6 +17,7 @@ abbrev pub times : {A : Type 0} → ℕ → A → List A
 times zero d = []
 times (suc n) d = d ∷ times n d
 
+-- what the listed domains are, and what they become; the pair, and whether `domains_changed` is set
 pub record Case : Type 0 where
   pub given : List Chutes
   pub then : List Chutes
@@ -24,21 +25,35 @@ pub record Case : Type 0 where
   pub consistent : Bool
   pub flag : Bool
 
-unfoldable pub cases : List Case
-cases =
-    -- 7
-    record { given = times 2 (from 1 5); then = from 1 5 ∷ [] ∷ []; changed = true; consistent = false; flag = true }
-    -- 8
-    ∷ record { given = times 2 (from 2 1) ++ (from 4 1 ∷ []); then = times 2 (from 2 1) ++ (from 2 3 ∷ []); changed = true; consistent = true; flag = false }
-    -- 9
-    ∷ record { given = times 3 (from 2 1); then = times 2 (from 2 1) ++ ([] ∷ []); changed = false; consistent = false; flag = false }
-    -- 10
-    ∷ record { given = times 2 (from 2 1) ++ times 4 (from 9 1); then = times 2 (from 2 1) ++ times 4 (from 7 3); changed = true; consistent = true; flag = false }
-    -- 11
-    ∷ record { given = times 2 (from 2 1) ++ times 5 (from 9 1); then = times 2 (from 2 1) ++ times 5 (from 9 1); changed = false; consistent = true; flag = false }
-    -- the second is assigned only as step 1 runs, so the third keeps 2
-    ∷ record { given = from 1 1 ∷ from 2 1 ∷ from 2 2 ∷ times 4 (from 9 1); then = from 1 1 ∷ from 1 2 ∷ from 2 2 ∷ times 4 (from 8 2); changed = true; consistent = true; flag = true }
-    ∷ []
+abbrev case : List Chutes → List Chutes → Bool → Bool → Bool → Case
+case given then changed consistent flag = record { given = given; then = then; changed = changed; consistent = consistent; flag = flag }
+
+-- 7. Two ids fixed at 5: (true, false), second empty
+abbrev pub seven : Case
+seven = case (times 2 (from 1 5)) (from 1 5 ∷ [] ∷ []) true false true
+
+-- 8. Domains 1..2, 1..2, 1..4: third becomes 3, 4; (true, true)
+abbrev pub eight : Case
+eight = case (times 2 (from 2 1) ++ (from 4 1 ∷ [])) (times 2 (from 2 1) ++ (from 2 3 ∷ [])) true true false
+
+-- 9. Three of 1..2: third empty, (false, false)
+abbrev pub nine : Case
+nine = case (times 3 (from 2 1)) (times 2 (from 2 1) ++ ([] ∷ [])) false false false
+
+-- 10. Six ids, two of 1..2, four of 1..9: those four become 3..9, (true, true)
+abbrev pub ten : Case
+ten = case (times 2 (from 2 1) ++ times 4 (from 9 1)) (times 2 (from 2 1) ++ times 4 (from 7 3)) true true false
+
+-- 11. The same with seven ids, five of 1..9: nothing removed, (false, true)
+abbrev pub eleven : Case
+eleven = case (times 2 (from 2 1) ++ times 5 (from 9 1)) (times 2 (from 2 1) ++ times 5 (from 9 1)) false true false
+
+-- the second is assigned only as step 1 runs, so the third keeps 2
+abbrev pub unjoined : Case
+unjoined = case (from 1 1 ∷ from 2 1 ∷ from 2 2 ∷ times 4 (from 9 1)) (from 1 1 ∷ from 1 2 ∷ from 2 2 ∷ times 4 (from 8 2)) true true true
+
+abbrev pub cases : List Case
+cases = seven ∷ eight ∷ nine ∷ ten ∷ eleven ∷ unjoined ∷ []
 
 abbrev pub worked : Case → Case
 worked c =
@@ -46,5 +61,5 @@ worked c =
     record { given = c .given; then = r .domains; changed = r .changed; consistent = r .consistent; flag = raises (c .given) }
 
 pub cases-hold : map worked cases ≡ cases
-unfolding cases pass raises step1 step2
+unfolding pass raises step1 step2
 cases-hold = refl

@@ -1,8 +1,8 @@
--- What is beyond a limit, gathered over masks; and what a put changes and leaves of the saved masks.
+-- What is beyond a limit, gathered over masks; what a put changes and leaves of the saved masks; and that words stay words.
 use mathlib.Core.Path.{_≡_, refl, _∙_}
 use mathlib.Core.Bool.{Bool, true, false, _&&_}
-use mathlib.Core.List.{List}
-use Prim.Native.Nat.{ℕ, _+_, _-_, _^_, _<_}
+use mathlib.Core.List.{List, [], _∷_}
+use Prim.Native.Nat.{ℕ, zero, suc, _+_, _-_, _^_, _<_}
 use native.Mathlib.Nat.{le-antisymm}
 use native.Mathlib.Omega.{arith}
 use lib.Bits.{bitOr}
@@ -13,6 +13,8 @@ use borrow.Author.Tests.{eqb-true, eqb-false, ne-eqb}
 use Rattle.mask.specs.Bit.{bitMinus, or-none}
 use Rattle.mask.specs.Sets.{in-first, fits-in, minus-none, subset-in}
 use Rattle.mask.specs.Tests.{eqb-ltb-iff}
+use Rattle.mask.specs.Val.{Fit}
+use Rattle.mask.specs.Words.{Words, word-lt}
 use Rattle.mask.specs.declared.Mask.{Mask}
 use Rattle.saved.specs.Saved.{start, savedAt, putAt}
 
@@ -61,3 +63,19 @@ put-there ws m i x n j p q ne =
 pub put-length : (ws : List ℕ) (m i : ℕ) (x : Mask) → length (putAt ws m i x) ≡ length ws
 unfolding putAt
 put-length ws m i x = rw (length-set, length-set)
+
+-- ---- words of 64 bits
+
+set-words : (ws : List ℕ) (i x : ℕ) → Words ws → x < 2 ^ 64 → Words (set ws i x)
+set-words [] i x h l = tt
+set-words (w ∷ ws) zero x h l = (l, h .1)
+set-words (w ∷ ws) (suc i) x h l = (h .0, set-words ws i x (h .1) l)
+
+pub put-words : (ws : List ℕ) (m i : ℕ) (x : Mask) → Words ws → Fit x → Words (putAt ws m i x)
+unfolding putAt
+put-words ws m i x h f = set-words (set ws (start m i) (x .lo)) (start m i + 1) (x .hi) (set-words ws (start m i) (x .lo) h (f .0)) (f .1 .0)
+
+-- of such words every saved mask fits
+pub saved-fit : (ws : List ℕ) (m i : ℕ) → Words ws → Fit (savedAt ws m i)
+unfolding savedAt
+saved-fit ws m i h = (word-lt ws (start m i) h, (word-lt ws (start m i + 1) h, tt))

@@ -4,5 +4,5 @@ pub mod Drops
 pub mod Pairs
 pub mod Made
 pub mod Restores
-pub mod Cases
+pub mod Accident
 pub mod Theorems

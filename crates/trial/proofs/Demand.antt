@@ -1,7 +1,7 @@
 -- Demand 3 about the board that runs. For any accepted mark and any chain of public calls from then on, while that mark is open: the present domains
 -- allow exactly the ways that those at the mark allow and that the work in force permits (`trial-exact`); the destinations, their order and their
--- universes stay (`trial-alike`); restoring the mark gives every domain back, bit for bit, and the older marks with them (`trial-restored`); an
--- inconsistent answer refutes (`trial-refutes`). Each follows from the rules' theorem through the view.
+-- universes stay (`trial-alike`); restoring the mark gives every domain back, bit for bit, and the older marks with them (`trial-restored`); keeping
+-- it leaves every domain, and the older marks (`trial-kept`); an inconsistent answer refutes (`trial-refutes`). Each follows from the rules' theorem through the view.
 use mathlib.Core.Path.{_≡_, refl, sym, ap, _∙_, subst}
 use mathlib.Core.Bool.{Bool, true, false}
 use mathlib.Core.List.{List, [], _∷_, map}
@@ -19,16 +19,19 @@ use Rattle.domain.specs.declared.Outcome.{Outcome}
 use Rattle.domain.specs.declared.Outcome.the-variants as outcome
 use Rattle.board.specs.Well.{wellBoard}
 use Rattle.board.specs.View.{view}
+use Rattle.board.specs.Answers.{done}
 use Rattle.board.specs.Obeys.{outcomeOf, Whole, Alike, Obeys}
+use Rattle.board.specs.Worded.{Worded}
 use Rattle.board.specs.declared.Board.{Board}
 use Rattle.board.specs.declared.Settled.{Settled}
 use Rattle.board.proofs.ViewLaws.{view-marks}
-use Rattle.trial.specs.Marks.{marked, markOf, restoreOf}
-use Rattle.trial.specs.Calls.{Step, Chain, final, calls, StaysOpen, workSince, Allows, Exactly, Worded, Same}
-use Rattle.trial.proofs.Theorems.{mark-refuses, mark-deep, mark-done, mark-obeys, restore-obeys}
+use Rattle.trial.specs.Marks.{marked, restored, markOf, restoreOf, keepOf}
+use Rattle.trial.specs.Calls.{Step, Chain, final, calls, StaysOpen, workSince, Allows, Exactly, SameMarks, Same}
+use Rattle.trial.proofs.Theorems.{mark-refuses, mark-deep, mark-done, restore-done, keep-done, mark-obeys, restore-obeys}
 use Rattle.trial.proofs.Levels.{chain-level}
 use Rattle.trial.proofs.Chains.{chain-view, chain-well, chain-whole, chain-alike, alike-trans, allows-view}
 use Rattle.trial.proofs.Words.{same-words}
+use Rattle.trial.proofs.Worded.{restore-worded}
 
 -- a mark is accepted only on a well-formed board with fewer than 8 marks (`mark-done`: and on each of them)
 pub accepted-well : (b : Board) → markOf b .answer ≡ outcome.Done → (wellBoard b ≡ true) × (b .marks < 8)
@@ -122,6 +125,23 @@ module _ (b : Board) (whole : Whole b) (accepted : markOf b .answer ≡ outcome.
         let a = undone .acts ∙ ap (rules.act rules.restore) is-after in
         (ap (λ (x : rules.Board). x .now) a ∙ r .0, ap (λ (x : rules.Board). x .saved) a ∙ r .1)
 
-    -- and the words of a program's board: every domain is equal bit for bit
-    pub trial-restored : Worded b → Worded back → Same b back
-    trial-restored x y = same-words b back x y (alike-trans b now back trial-alike (undone .stays (omega arith))) (trial-undone .0) (trial-undone .1)
+    some-mark : 0 < now .marks
+    some-mark = omega arith
+
+    is-restored : restoreOf now ≡ done (restored now)
+    is-restored = restore-done now now-well some-mark
+
+    module _ (x : Worded b) (y : Worded now) where
+      -- and the words of a program's board: every domain is equal bit for bit
+      pub trial-restored : (restoreOf now .answer ≡ outcome.Done) × Same b back
+      trial-restored = (
+        ap (λ (s : Settled). s .answer) is-restored,
+        same-words b back x (restore-worded now y) (alike-trans b now back trial-alike (undone .stays some-mark)) (trial-undone .0) (trial-undone .1),
+      )
+
+      -- keeping it leaves every domain, and the older marks are those before it
+      pub trial-kept : (keepOf now .answer ≡ outcome.Done) × (keepOf now .board .rows ≡ now .rows) × SameMarks b (keepOf now .board)
+      trial-kept =
+          let older : SameMarks b (restored now) = subst (λ (s : Settled). SameMarks b (s .board)) is-restored (trial-restored .1 .older) in
+          subst (λ (s : Settled). (s .answer ≡ outcome.Done) × (s .board .rows ≡ now .rows) × SameMarks b (s .board)) (sym (keep-done now now-well some-mark))
+          (refl, refl, record { marks = older .marks; saved = older .saved })

@@ -5,4 +5,5 @@ pub mod Theorems
 pub mod Chains
 pub mod Levels
 pub mod Words
+pub mod Worded
 pub mod Demand

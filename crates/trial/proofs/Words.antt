@@ -11,14 +11,17 @@ use Rattle.rules.specs.Board as rules
 use Rattle.domain.specs.declared.BitDomain.{BitDomain}
 use Rattle.domain.proofs.Theorems.{determined}
 use Rattle.saved.specs.Saved.{savedAt}
+use Rattle.saved.proofs.SavedLaws.{saved-fit}
 use Rattle.board.specs.Rows.{idAt, domainAt}
 use Rattle.board.specs.View.{rowsFrom, rowsOf, heldAt, savedIn, marksOf, view}
 use Rattle.board.specs.Obeys.{Alike}
+use Rattle.board.specs.Worded.{Worded}
 use Rattle.board.specs.declared.Row.{Row}
 use Rattle.board.specs.declared.Board.{Board}
 use Rattle.board.proofs.ViewLaws.{view-marks}
+use Rattle.board.proofs.WordLaws.{fit-at}
 use Rattle.trial.specs.Marks.{masked}
-use Rattle.trial.specs.Calls.{Worded, Same}
+use Rattle.trial.specs.Calls.{Same}
 
 abbrev chutesAt : rules.Rows → ℕ → Chutes
 chutesAt [] i = []
@@ -53,11 +56,13 @@ same-words b c x y al e f =
     (λ t. marksOf (c .rows) (sym (al .count) t) (c .saved) (sym marks t)) ∙ f in
     record {
       count = al .count;
-      marks = marks;
       id = λ i l. al .id i;
-      domain = λ i l. determined (domainAt (c .rows) i) (domainAt (b .rows) i) (y .held i) (x .held i) (al .min i) (al .max i) (rows-same (idAt (c .rows)) (idAt (b .rows)) (heldAt (c .rows)) (heldAt (b .rows)) n held i l);
-      saved = λ m i h l.
-          ap (λ (d : BitDomain). d .mask)
-          (determined (masked (domainAt (c .rows) i) (savedAt (c .saved) m i)) (masked (domainAt (b .rows) i) (savedAt (b .saved) m i)) (y .saved m i) (x .saved m i) (al .min i) (al .max i)
-          (rows-same (idAt (c .rows)) (idAt (b .rows)) (savedIn (c .rows) (c .saved) m) (savedIn (b .rows) (b .saved) m) n (marks-same (c .rows) (b .rows) n (c .saved) (b .saved) (b .marks) kept m h) i l));
+      domain = λ i l. determined (domainAt (c .rows) i) (domainAt (b .rows) i) (fit-at (c .rows) i (y .rows)) (fit-at (b .rows) i (x .rows)) (al .min i) (al .max i) (rows-same (idAt (c .rows)) (idAt (b .rows)) (heldAt (c .rows)) (heldAt (b .rows)) n held i l);
+      older = record {
+        marks = marks;
+        saved = λ m i h l.
+            ap (λ (d : BitDomain). d .mask)
+            (determined (masked (domainAt (c .rows) i) (savedAt (c .saved) m i)) (masked (domainAt (b .rows) i) (savedAt (b .saved) m i)) (saved-fit (c .saved) m i (y .saved)) (saved-fit (b .saved) m i (x .saved)) (al .min i) (al .max i)
+            (rows-same (idAt (c .rows)) (idAt (b .rows)) (savedIn (c .rows) (c .saved) m) (savedIn (b .rows) (b .saved) m) n (marks-same (c .rows) (b .rows) n (c .saved) (b .saved) (b .marks) kept m h) i l));
+      };
     }

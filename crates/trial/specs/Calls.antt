@@ -4,7 +4,6 @@ use mathlib.Core.List.{List, [], _∷_, map}
 use mathlib.Core.Logic.{_↔_}
 use Prim.Native.Nat.{ℕ, _<_}
 use lib.Dec.{T}
-use Rattle.mask.specs.Val.{Fit}
 use Rattle.rules.specs.Sets.{has, Every}
 use Rattle.rules.specs.Board as rules
 use Rattle.rules.specs.Trial.{Work, Way, differs, permits, trial, inForce}
@@ -53,15 +52,14 @@ Allows b w = (i : ℕ) → i < b .count → T (has (w (idAt (b .rows) i)) (setOf
 abbrev pub Exactly : Board → List Work → Board → Type 0
 Exactly b f c = (w : Way) → Every (differs w) f → Allows c w ↔ (Allows b w × Every (permits w) f)
 
--- what every board of a program has: words of 64 bits
-pub record Worded (b : Board) : Type 0 where
-  pub held : (i : ℕ) → Fit (domainAt (b .rows) i .mask)
-  pub saved : (m i : ℕ) → Fit (savedAt (b .saved) m i)
+-- the same open marks, and what each of them saved
+pub record SameMarks (b c : Board) : Type 0 where
+  pub marks : c .marks ≡ b .marks
+  pub saved : (m i : ℕ) → m < b .marks → i < b .count → savedAt (c .saved) m i ≡ savedAt (b .saved) m i
 
 -- the same destinations in the same order with the same domains, bit for bit, and the same open marks
 pub record Same (b c : Board) : Type 0 where
   pub count : c .count ≡ b .count
-  pub marks : c .marks ≡ b .marks
   pub id : (i : ℕ) → i < b .count → idAt (c .rows) i ≡ idAt (b .rows) i
   pub domain : (i : ℕ) → i < b .count → domainAt (c .rows) i ≡ domainAt (b .rows) i
-  pub saved : (m i : ℕ) → m < b .marks → i < b .count → savedAt (c .saved) m i ≡ savedAt (b .saved) m i
+  pub older : SameMarks b c

@@ -2,7 +2,7 @@
 
 mod compare;
 mod generate;
-mod paper;
+pub mod paper;
 mod rust_side;
 mod script;
 #[cfg(feature = "linked")]

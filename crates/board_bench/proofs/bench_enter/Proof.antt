@@ -1,0 +1,58 @@
+-- One turn for each call. Assumes nothing.
+use Prim.Native.Nat.{_≤_, _-_}
+use borrow.Author.Needs.{needs}
+use Rattle.board_bench.proofs.bench_enter.Statement.{statement}
+use Rattle.board_bench.proofs.bench_enter.Tie as tie
+
+abbrev Inv-loop : tie.InvT-loop
+Inv-loop turns b₀ sum₀ i₀ b sum i = i ≤ turns
+
+abbrev μ-loop : tie.MeasureT-loop
+μ-loop turns b₀ sum₀ i₀ b sum i = turns - i
+
+set-up-requires : tie.Need-set-up-requires Inv-loop μ-loop
+set-up-requires c κs = search needs
+
+loop-holds : tie.Need-loop-holds Inv-loop μ-loop
+loop-holds c = search needs
+
+id-requires : tie.Need-id-requires Inv-loop μ-loop
+id-requires c κs = search needs
+
+add-variable-requires : tie.Need-add-variable-requires Inv-loop μ-loop
+add-variable-requires c κs = search needs
+
+outcome-requires : tie.Need-outcome-requires Inv-loop μ-loop
+outcome-requires c κs = search needs
+
+plus-requires : tie.Need-plus-requires Inv-loop μ-loop
+plus-requires c κs = search needs
+
+add-i : tie.Need-add-i Inv-loop μ-loop
+add-i c = search needs
+
+loop-less : tie.Need-loop-less Inv-loop μ-loop
+loop-less c = search needs
+
+loop-again : tie.Need-loop-again Inv-loop μ-loop
+loop-again c = search needs
+
+returns : tie.Need-returns Inv-loop μ-loop
+returns c = search needs
+
+pub bench-enter-spec : {M : Type 1} → statement M
+bench-enter-spec =
+    tie.close
+    (tie.spec
+    Inv-loop
+    μ-loop
+    set-up-requires
+    loop-holds
+    id-requires
+    add-variable-requires
+    outcome-requires
+    plus-requires
+    add-i
+    loop-less
+    loop-again
+    returns)

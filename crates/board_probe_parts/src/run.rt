@@ -1,0 +1,63 @@
+// The run of ids that lists are parts of, and the listed values.
+ghost use mathlib.Core.Path.{_≡_};
+ghost use Prim.Native.Nat.{_≤_};
+ghost use lib.ListN.{length};
+use probe_parts::record::Record;
+use probe_parts::regs;
+
+// How many ids the run has.
+pub const IDS: usize = 224;
+
+pub fn clear(ids: &mut [u32; 224]) {
+    let mut i = 0;
+    while i < IDS {
+        ids[i] = 0;
+        i += 1;
+    }
+}
+
+fn half(w: u64) -> u32 {
+    (w % 4294967296) as u32
+}
+
+// Four ids from place n on; those past the run's end are passed over.
+pub fn put(ids: &mut [u32; 224], r: Record) {
+    let at = r.n;
+    if at < IDS - 3 {
+        ids[at] = half(r.lo);
+        ids[at + 1] = half(r.lo >> 32);
+        ids[at + 2] = half(r.hi);
+        ids[at + 3] = half(r.hi >> 32);
+    }
+}
+
+// Where the list begins that a record names, and where it ends.
+pub struct Span {
+    pub start: usize,
+    pub end: usize,
+}
+
+pub fn part(r: Record) -> Span
+    ensures { λ p. ⌜ (p .start ≤ p .end) × (p .end ≤ 224) ⌝ }
+{
+    let start = (r.lo % 128) as usize;
+    let many = (r.hi % 97) as usize;
+    Span {
+        start,
+        end: start + many,
+    }
+}
+
+// The listed values as they stand in the registers.
+pub fn values(regs: &[u64; 256]) -> [i32; 160]
+    ensures { λ r. ⌜ length r ≡ 160 ⌝ }
+{
+    let mut values = [0i32; 160];
+    let mut i = 0;
+    while i < regs::LISTED {
+        let v = regs::value(regs, i);
+        values[i] = v;
+        i += 1;
+    }
+    values
+}

@@ -1,0 +1,4 @@
+-- Laws that belong to no one function.
+pub mod Bits
+pub mod Board
+pub mod Worked

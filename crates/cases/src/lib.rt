@@ -1,0 +1,2 @@
+// The eleven worked cases of 01. There is no code here: specs/Worked.antt is the table, each case in the words of the calls'
+// definitions, and proofs/Worked.antt has its one proof.

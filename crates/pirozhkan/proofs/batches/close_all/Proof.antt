@@ -1,0 +1,62 @@
+-- `pirozhkan::batches::close_all` meets its contract: it is the by-value call between reading and writing. Assumes nothing.
+use mathlib.Core.Path.{_≡_, sym, ap, _∙_}
+use lib.ListN.{take}
+use Rattle.reply.specs.Through.{left, judgeOf}
+use Rattle.reply.proofs.ThroughLaws.{through-why, through-passed, passed}
+use Rattle.pirozhkan.specs.Batches.{batched, batching}
+use Rattle.pirozhkan.proofs.Batching.{batching-guarded}
+use borrow.Author.Needs.{needs}
+use Rattle.pirozhkan.proofs.batches.close_all.Statement.{statement}
+use Rattle.pirozhkan.proofs.batches.close_all.Tie as tie
+
+judge-requires : tie.Need-judge-requires
+judge-requires c κs = search needs
+
+same-length : tie.Need-same-length
+same-length c = search needs
+
+-- words that pass the first test
+zero : (c : tie.Else1) → judgeOf (c .before .before .before .before .args .ws .now) ≡ 0
+zero c = sym (c .before .judge .ensures .0) ∙ c .if1 .left
+
+returns : tie.Need-returns
+returns c = let a = c .before .before .before .before .args in through-why (batching (take (a .n) (a .cs))) (a .ws .now) (c .before .judge .result) (c .before .judge .ensures .0) (c .if1 .taken)
+
+read-requires : tie.Need-read-requires
+read-requires c κs = passed (c .before .before .before .before .before .args .ws .now) (zero (c .before))
+
+close-many-requires : tie.Need-close-many-requires
+close-many-requires c κs = search needs
+
+write-requires : tie.Need-write-requires
+write-requires c κs = passed (c .before .before .before .before .before .before .before .before .before .args .ws .now) (zero (c .before .before .before .before .before)) .0
+
+counted-requires : tie.Need-counted-requires
+counted-requires c κs = search needs
+
+same-length-2 : tie.Need-same-length-2
+same-length-2 c = search needs
+
+returns-2 : tie.Need-returns-2
+returns-2 c =
+    let w = c .before .before .before in
+    let d = w .before .before .before in
+    let r = d .before in
+    let z = r .before .before in
+    let a = z .before .before .before .before .args in
+    (λ t. left (c .counted .ensures t) (w .write .ensures t))
+    ∙ through-passed (batching (take (a .n) (a .cs))) (a .ws .now) (batching-guarded (take (a .n) (a .cs))) (z .before .judge .ensures .1) (zero z) (batched (d .close-many .result)) (ap batched (d .close-many .ensures) ∙ ap (batching (take (a .n) (a .cs))) (r .read .ensures))
+
+pub close-all-spec : {M : Type 1} → statement M
+close-all-spec =
+    tie.close
+    (tie.spec
+    judge-requires
+    same-length
+    returns
+    read-requires
+    close-many-requires
+    write-requires
+    counted-requires
+    same-length-2
+    returns-2)

@@ -1,0 +1,49 @@
+-- `pirozhkan::questions::pirozhkan_assigned_value` meets its contract: it is the by-value call after reading. Assumes nothing.
+use mathlib.Core.Path.{_≡_, sym, ap, _∙_}
+use Rattle.reply.specs.Through.{judgeOf}
+use Rattle.reply.proofs.ThroughLaws.{answered-why, answered-passed, passed}
+use Rattle.board_ask.specs.Answers.{chuteOf}
+use Rattle.pirozhkan.specs.Calls.{assignedTo}
+use Rattle.pirozhkan.proofs.Guards.{value-refuses}
+use borrow.Author.Needs.{needs}
+use Rattle.pirozhkan.proofs.questions.pirozhkan_assigned_value.Statement.{statement}
+use Rattle.pirozhkan.proofs.questions.pirozhkan_assigned_value.Tie as tie
+
+judge-requires : tie.Need-judge-requires
+judge-requires c κs = search needs
+
+-- words that pass the first test
+zero : (c : tie.Else1) → judgeOf (c .before .before .before .args .ws .now) ≡ 0
+zero c = sym (c .before .judge .ensures .0) ∙ c .if1 .left
+
+returns : tie.Need-returns
+returns c = let a = c .before .before .before .args in answered-why (assignedTo (a .id)) (a .ws .now) (c .before .judge .result) (c .before .judge .ensures .0) (c .if1 .taken)
+
+read-requires : tie.Need-read-requires
+read-requires c κs = passed (c .before .before .before .args .ws .now) (zero c)
+
+assigned-value-requires : tie.Need-assigned-value-requires
+assigned-value-requires c κs = search needs
+
+found-requires : tie.Need-found-requires
+found-requires c κs = search needs
+
+returns-2 : tie.Need-returns-2
+returns-2 c =
+    let d = c .before in
+    let r = d .before in
+    let z = r .before in
+    let a = z .before .before .before .args in
+    c .found .ensures
+    ∙ answered-passed (assignedTo (a .id)) (a .ws .now) (value-refuses (a .id)) (zero z) (chuteOf (d .assigned-value .result)) (ap chuteOf (d .assigned-value .ensures) ∙ ap (assignedTo (a .id)) (r .read .ensures))
+
+pub pirozhkan-assigned-value-spec : {M : Type 1} → statement M
+pirozhkan-assigned-value-spec =
+    tie.close
+    (tie.spec
+    judge-requires
+    returns
+    read-requires
+    assigned-value-requires
+    found-requires
+    returns-2)

@@ -1,0 +1,43 @@
+-- `pirozhkan::questions::pirozhkan_domain_size` meets its contract: it is the by-value call after reading. Assumes nothing.
+use mathlib.Core.Path.{_≡_, sym, ap, _∙_}
+use Rattle.reply.specs.Through.{judgeOf}
+use Rattle.reply.proofs.ThroughLaws.{answered-why, answered-passed, passed}
+use Rattle.board_ask.specs.Answers.{countOf}
+use Rattle.pirozhkan.specs.Calls.{sizing}
+use Rattle.pirozhkan.proofs.Guards.{size-refuses}
+use borrow.Author.Needs.{needs}
+use Rattle.pirozhkan.proofs.questions.pirozhkan_domain_size.Statement.{statement}
+use Rattle.pirozhkan.proofs.questions.pirozhkan_domain_size.Tie as tie
+
+judge-requires : tie.Need-judge-requires
+judge-requires c κs = search needs
+
+-- words that pass the first test
+zero : (c : tie.Else1) → judgeOf (c .before .before .before .args .ws .now) ≡ 0
+zero c = sym (c .before .judge .ensures .0) ∙ c .if1 .left
+
+returns : tie.Need-returns
+returns c = let a = c .before .before .before .args in answered-why (sizing (a .id)) (a .ws .now) (c .before .judge .result) (c .before .judge .ensures .0) (c .if1 .taken)
+
+read-requires : tie.Need-read-requires
+read-requires c κs = passed (c .before .before .before .args .ws .now) (zero c)
+
+domain-size-requires : tie.Need-domain-size-requires
+domain-size-requires c κs = search needs
+
+counted-requires : tie.Need-counted-requires
+counted-requires c κs = search needs
+
+returns-2 : tie.Need-returns-2
+returns-2 c =
+    let d = c .before in
+    let r = d .before in
+    let z = r .before in
+    let a = z .before .before .before .args in
+    c .counted .ensures
+    ∙ answered-passed (sizing (a .id)) (a .ws .now) (size-refuses (a .id)) (zero z) (countOf (d .domain-size .result)) (ap countOf (d .domain-size .ensures) ∙ ap (sizing (a .id)) (r .read .ensures))
+
+pub pirozhkan-domain-size-spec : {M : Type 1} → statement M
+pirozhkan-domain-size-spec =
+    tie.close
+    (tie.spec judge-requires returns read-requires domain-size-requires counted-requires returns-2)

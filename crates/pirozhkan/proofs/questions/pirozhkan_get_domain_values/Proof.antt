@@ -1,0 +1,55 @@
+-- `pirozhkan::questions::pirozhkan_get_domain_values` meets its contract: it is the by-value call after reading. Assumes nothing.
+use mathlib.Core.Path.{_≡_, sym, ap, _∙_}
+use Rattle.reply.specs.Through.{judgeOf}
+use Rattle.reply.proofs.ThroughLaws.{shown-why, shown-passed, passed}
+use Rattle.reply.specs.Through.{left}
+use Rattle.pirozhkan.specs.Calls.{writtenInto, valuesInto}
+use Rattle.pirozhkan.proofs.Guards.{values-refuses}
+use borrow.Author.Needs.{needs}
+use Rattle.pirozhkan.proofs.questions.pirozhkan_get_domain_values.Statement.{statement}
+use Rattle.pirozhkan.proofs.questions.pirozhkan_get_domain_values.Tie as tie
+
+judge-requires : tie.Need-judge-requires
+judge-requires c κs = search needs
+
+-- words that pass the first test
+zero : (c : tie.Else1) → judgeOf (c .before .before .before .args .ws .now) ≡ 0
+zero c = sym (c .before .judge .ensures .0) ∙ c .if1 .left
+
+returns : tie.Need-returns
+returns c = let a = c .before .before .before .args in shown-why (valuesInto (a .id) (a .cells .now)) (a .ws .now) (a .cells .now) (c .before .judge .result) (c .before .judge .ensures .0) (c .if1 .taken)
+
+read-requires : tie.Need-read-requires
+read-requires c κs = passed (c .before .before .before .args .ws .now) (zero c)
+
+get-domain-values-into-requires : tie.Need-get-domain-values-into-requires
+get-domain-values-into-requires c κs = search needs
+
+counted-requires : tie.Need-counted-requires
+counted-requires c κs = search needs
+
+same-length : tie.Need-same-length
+same-length c = search needs
+
+returns-2 : tie.Need-returns-2
+returns-2 c =
+    let g = c .before .before in
+    let r = g .before .before in
+    let z = r .before in
+    let a = z .before .before .before .args in
+    (λ t. left (c .counted .ensures t) (g .get-domain-values-into .last .1 .1 .0))
+    ∙ ap writtenInto (g .get-domain-values-into .ensures)
+    ∙ ap (valuesInto (a .id) (a .cells .now)) (r .read .ensures)
+    ∙ shown-passed (valuesInto (a .id) (a .cells .now)) (a .ws .now) (a .cells .now) (values-refuses (a .id) (a .cells .now)) (zero z)
+
+pub pirozhkan-get-domain-values-spec : {M : Type 1} → statement M
+pirozhkan-get-domain-values-spec =
+    tie.close
+    (tie.spec
+    judge-requires
+    returns
+    read-requires
+    get-domain-values-into-requires
+    counted-requires
+    same-length
+    returns-2)

@@ -1,0 +1,56 @@
+-- `pirozhkan::shut::pirozhkan_reset_changed_flag` meets its contract: it is the by-value call between reading and writing. Assumes nothing.
+use mathlib.Core.Path.{_≡_, sym, ap, _∙_}
+use Rattle.reply.specs.Through.{settled, judgeOf}
+use Rattle.reply.proofs.ThroughLaws.{through-why, through-passed, passed}
+use Rattle.pirozhkan.specs.Calls.{resetting}
+use Rattle.pirozhkan.proofs.Guards.{resetting-guarded}
+use borrow.Author.Needs.{needs}
+use Rattle.pirozhkan.proofs.shut.pirozhkan_reset_changed_flag.Statement.{statement}
+use Rattle.pirozhkan.proofs.shut.pirozhkan_reset_changed_flag.Tie as tie
+
+judge-requires : tie.Need-judge-requires
+judge-requires c κs = search needs
+
+same-length : tie.Need-same-length
+same-length c = search needs
+
+-- words that pass the first test
+zero : (c : tie.Else1) → judgeOf (c .before .before .before .before .args .ws .now) ≡ 0
+zero c = sym (c .before .judge .ensures .0) ∙ c .if1 .left
+
+returns : tie.Need-returns
+returns c = let a = c .before .before .before .before .args in through-why resetting (a .ws .now) (c .before .judge .result) (c .before .judge .ensures .0) (c .if1 .taken)
+
+read-requires : tie.Need-read-requires
+read-requires c κs = passed (c .before .before .before .before .before .args .ws .now) (zero (c .before))
+
+reset-changed-flag-requires : tie.Need-reset-changed-flag-requires
+reset-changed-flag-requires c κs = search needs
+
+settle-requires : tie.Need-settle-requires
+settle-requires c κs = passed (c .before .before .before .before .before .before .before .before .args .ws .now) (zero (c .before .before .before .before)) .0
+
+same-length-2 : tie.Need-same-length-2
+same-length-2 c = search needs
+
+returns-2 : tie.Need-returns-2
+returns-2 c =
+    let s = c .before .before in
+    let r = s .before .before .before in
+    let z = r .before .before in
+    let a = z .before .before .before .before .args in
+    s .settle .ensures
+    ∙ through-passed resetting (a .ws .now) resetting-guarded (z .before .judge .ensures .1) (zero z) (settled (s .before .reset-changed-flag .result)) (ap settled (s .before .reset-changed-flag .ensures) ∙ ap resetting (r .read .ensures))
+
+pub pirozhkan-reset-changed-flag-spec : {M : Type 1} → statement M
+pirozhkan-reset-changed-flag-spec =
+    tie.close
+    (tie.spec
+    judge-requires
+    same-length
+    returns
+    read-requires
+    reset-changed-flag-requires
+    settle-requires
+    same-length-2
+    returns-2)

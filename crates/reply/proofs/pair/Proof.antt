@@ -1,0 +1,39 @@
+-- `reply::pair` meets its contract, by its two cases. Assumes nothing.
+use mathlib.Core.Path.{_≡_, refl, sym, ap, _∙_}
+use mathlib.Core.Bool.{Bool}
+use Rattle.rules.specs.Board as rules
+use Rattle.reply.specs.Told.{coded}
+use Rattle.board_spread.specs.declared.Pair.{Pair}
+use Rattle.board_spread.specs.Spread.{pairOf}
+use borrow.Author.Needs.{needs}
+use Rattle.reply.proofs.pair.Statement.{statement}
+use Rattle.reply.proofs.pair.Tie as tie
+use Rattle.reply.proofs.pair.Reads as reads
+use Rattle.reply.proofs.pair.Lts as lts
+use Rattle.reply.proofs.both.Reads as both-reads
+use Rattle.reply.proofs.refusal.Reads as refusal-reads
+
+enum-known-p : tie.Need-enum-known-p
+enum-known-p c = search needs
+
+refusal-requires : tie.Need-refusal-requires
+refusal-requires c κs = search needs
+
+enum-known-p-2 : tie.Need-enum-known-p-2
+enum-known-p-2 c = search needs
+
+both-requires : tie.Need-both-requires
+both-requires c κs = search needs
+
+returns : tie.Need-returns
+unfolding coded
+returns c = c .refusal .ensures ∙ ap (λ (x : Pair). coded (pairOf x)) (sym (c .before .before .p .given .1))
+
+returns-2 : tie.Need-returns-2
+unfolding coded
+returns-2 c = c .both .ensures ∙ sym (ap (λ (x : Pair). coded (pairOf x)) (c .before .before .p2 .given .1))
+
+pub pair-spec : {M : Type 1} → statement M
+pair-spec =
+    tie.close
+    (tie.spec enum-known-p refusal-requires enum-known-p-2 both-requires returns returns-2)

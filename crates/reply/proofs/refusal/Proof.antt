@@ -1,0 +1,44 @@
+-- `reply::refusal` meets its contract: the number is below a byte, so that the sum fits. Assumes nothing.
+use mathlib.Core.Path.{sym, ap, _∙_, subst}
+use Prim.Native.Nat.{ℕ, _+_, _<_, _^_}
+use native.Mathlib.Omega.{arith}
+use Rattle.reply.specs.Told.{packed, coded}
+use Rattle.reply.proofs.ToldLaws.{number-range, code-fits}
+use borrow.Author.Needs.{needs}
+use Rattle.reply.proofs.refusal.Statement.{statement}
+use Rattle.reply.proofs.refusal.Tie as tie
+use Rattle.reply.proofs.refusal.Reads as reads
+use Rattle.reply.proofs.refusal.Lts as lts
+use Rattle.reply.proofs.pack.Reads as pack-reads
+use Rattle.rules.proofs.Refusal.number.Reads as number-reads
+use Rattle.rules.proofs.Refusal.place.Reads as place-reads
+
+number-requires : tie.Need-number-requires
+number-requires c κs = search needs
+
+place-requires : tie.Need-place-requires
+place-requires c κs = search needs
+
+cast-result : tie.Need-cast-result
+cast-result c = search needs
+
+pack-requires : tie.Need-pack-requires
+pack-requires c κs = search needs
+
+add-result : tie.Need-add-result
+add-result c =
+    let n = c .before .before .number in
+    let r = c .before .before .before .args .r in
+    record { fits = subst (λ (x : ℕ). n .result + x < 2 ^ 64) (sym (c .pack .ensures)) (code-fits (n .result) (c .before .place .result) (omega (arith, n .ensures, number-range r .1))) }
+
+returns : tie.Need-returns
+unfolding coded
+returns c =
+    let n = c .before .before .number .ensures in
+    let p = c .pack .ensures ∙ ap packed (c .before .place .ensures) in
+    λ t. n t + p t
+
+pub refusal-spec : {M : Type 1} → statement M
+refusal-spec =
+    tie.close
+    (tie.spec number-requires place-requires cast-result pack-requires add-result returns)

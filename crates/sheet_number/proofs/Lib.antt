@@ -1,0 +1,5 @@
+pub mod Runs
+pub mod Signs
+pub mod FirstByte
+pub mod Numbers
+pub mod Readers

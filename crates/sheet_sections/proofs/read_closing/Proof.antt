@@ -1,0 +1,77 @@
+-- `sheet_sections::read_closing` meets its contract: the fields are read in the order of `closing`, and the first fault ends both. Assumes nothing.
+use mathlib.Core.Path.{ap, sym, _∙_}
+use borrow.Author.Needs.{needs}
+use mir.ValLaws.{toZ-ofZ}
+use mir.Syntax.{w32}
+use Rattle.sheet_number.proofs.Readers.{value-field-fits}
+use Rattle.sheet_number.specs.Told.{toldNatural, toldSigned}
+use Rattle.sheet_sections.specs.Sections.{closing}
+use Rattle.sheet_sections.proofs.read_closing.Statement.{statement}
+use Rattle.sheet_sections.proofs.read_closing.Tie as tie
+
+natural-field-requires : tie.Need-natural-field-requires
+natural-field-requires c κs = search needs
+
+enum-known-k : tie.Need-enum-known-k
+enum-known-k c = search needs
+
+enum-known-n : tie.Need-enum-known-n
+enum-known-n c = search needs
+
+natural-field-requires-2 : tie.Need-natural-field-requires-2
+natural-field-requires-2 c κs = search needs
+
+enum-known-k-2 : tie.Need-enum-known-k-2
+enum-known-k-2 c = search needs
+
+enum-known-id : tie.Need-enum-known-id
+enum-known-id c = search needs
+
+value-field-requires : tie.Need-value-field-requires
+value-field-requires c κs = search needs
+
+enum-known-k-3 : tie.Need-enum-known-k-3
+enum-known-k-3 c = search needs
+
+enum-known-value : tie.Need-enum-known-value
+enum-known-value c = search needs
+
+kind-for-requires : tie.Need-kind-for-requires
+kind-for-requires c κs = search needs
+
+returns : tie.Need-returns
+unfolding closing
+returns c = rw (sym (c .before .before .before .natural-field .ensures) ∙ ap toldNatural (c .before .k .given .1))
+
+returns-2 : tie.Need-returns-2
+unfolding closing
+returns-2 c = rw (sym (c .before .before .before .before .before .before .before .natural-field .ensures) ∙ ap toldNatural (c .before .before .before .before .before .n .given .1), sym (c .before .before .before .natural-field2 .ensures) ∙ ap toldNatural (c .before .k2 .given .1))
+
+returns-3 : tie.Need-returns-3
+unfolding closing
+returns-3 c = rw (sym (c .before .before .before .before .before .before .before .before .before .before .before .natural-field .ensures) ∙ ap toldNatural (c .before .before .before .before .before .before .before .before .before .n .given .1), sym (c .before .before .before .before .before .before .before .natural-field2 .ensures) ∙ ap toldNatural (c .before .before .before .before .before .id .given .1), sym (c .before .before .before .value-field .ensures) ∙ ap toldSigned (c .before .k3 .given .1))
+
+returns-4 : tie.Need-returns-4
+unfolding closing
+returns-4 c =
+    let v = sym (c .before .before .before .before .value-field .ensures) ∙ ap toldSigned (c .before .before .value .given .1) in
+    rw (toZ-ofZ w32 _ (value-field-fits _ _ _ _ _ v), c .kind-for .ensures, sym (c .before .before .before .before .before .before .before .before .before .before .before .before .natural-field .ensures) ∙ ap toldNatural (c .before .before .before .before .before .before .before .before .before .before .n .given .1), sym (c .before .before .before .before .before .before .before .before .natural-field2 .ensures) ∙ ap toldNatural (c .before .before .before .before .before .before .id .given .1), v)
+
+pub read-closing-spec : {M : Type 1} → statement M
+read-closing-spec =
+    tie.close
+    (tie.spec
+    natural-field-requires
+    enum-known-k
+    enum-known-n
+    natural-field-requires-2
+    enum-known-k-2
+    enum-known-id
+    value-field-requires
+    enum-known-k-3
+    enum-known-value
+    kind-for-requires
+    returns
+    returns-2
+    returns-3
+    returns-4)

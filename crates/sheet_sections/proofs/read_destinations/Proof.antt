@@ -1,0 +1,59 @@
+-- `sheet_sections::read_destinations` meets its contract: the count line says how many lines `section` reads, and no more than fit. Assumes nothing.
+use mathlib.Core.Path.{ap, sym, _∙_}
+use borrow.Author.Needs.{needs}
+use denote.Ref.{now}
+use Rattle.sheet_number.proofs.Readers.{natural-field-bound}
+use Rattle.sheet_sections.proofs.Arrays.{section-fault, section-got}
+use Rattle.sheet_sections.specs.Rows.{destinationsOf}
+use Rattle.sheet_sections.specs.Sections.{destination}
+use Rattle.sheet_number.specs.Told.{toldNatural}
+use Rattle.sheet_sections.proofs.read_destinations.Statement.{statement}
+use Rattle.sheet_sections.proofs.read_destinations.Tie as tie
+
+natural-field-requires : tie.Need-natural-field-requires
+natural-field-requires c κs = search needs
+
+enum-known-k : tie.Need-enum-known-k
+enum-known-k c = search needs
+
+no-destinations-requires : tie.Need-no-destinations-requires
+no-destinations-requires c κs = search needs
+
+enum-known-n : tie.Need-enum-known-n
+enum-known-n c = search needs
+
+cast-read-destination-lines : tie.Need-cast-read-destination-lines
+cast-read-destination-lines c = search needs
+
+read-destination-lines-requires : tie.Need-read-destination-lines-requires
+read-destination-lines-requires c κs =
+    let a = c .before .before .before .before .before .args in
+    let g = c .before .n .given in
+    natural-field-bound 10 (now (a .s)) (a .at) 0 64 (g .0 .0) (g .0 .1 .0) (sym (c .before .before .before .natural-field .ensures) ∙ ap toldNatural (g .1)) .1
+
+returns : tie.Need-returns
+returns c =
+    let a = c .before .before .before .before .before .before .args in
+    let g = c .before .before .k .given in
+    c .no-destinations .ensures
+    ∙ ap destinationsOf (sym (section-fault 64 destination (now (a .s)) (a .at) (g .0 .0) (g .0 .1 .0) (sym (c .before .before .before .before .natural-field .ensures) ∙ ap toldNatural (g .1))))
+
+returns-2 : tie.Need-returns-2
+returns-2 c =
+    let a = c .before .before .before .before .before .before .args in
+    let g = c .before .before .n .given in
+    c .read-destination-lines .ensures
+    ∙ ap destinationsOf (sym (section-got 64 destination (now (a .s)) (a .at) (g .0 .0) (g .0 .1 .0) (sym (c .before .before .before .before .natural-field .ensures) ∙ ap toldNatural (g .1))))
+
+pub read-destinations-spec : {M : Type 1} → statement M
+read-destinations-spec =
+    tie.close
+    (tie.spec
+    natural-field-requires
+    enum-known-k
+    no-destinations-requires
+    enum-known-n
+    cast-read-destination-lines
+    read-destination-lines-requires
+    returns
+    returns-2)

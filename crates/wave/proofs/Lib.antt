@@ -1,0 +1,4 @@
+pub mod Small
+pub mod Answers
+pub mod Writing
+pub mod Theorems

@@ -1,0 +1,5 @@
+pub mod Pieces
+pub mod Bounds
+pub mod Runs
+pub mod Room
+pub mod Examples
