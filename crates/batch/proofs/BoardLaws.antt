@@ -2,19 +2,17 @@
 use mathlib.Core.Path.{_≡_, refl, sym, ap, _∙_, subst}
 use mathlib.Core.Bool.{Bool, true, false, _||_, cond}
 use mathlib.Core.List.{List, [], _∷_}
-use Prim.Native.Nat.{ℕ, suc, _+_, _≤_}
+use Prim.Native.Nat.{ℕ, suc, _+_}
 use native.Mathlib.Omega.{arith}
 use lib.Dec.{ltb}
 use borrow.Author.Tests.{lt-ltb, ltb-true, ltb-false}
 use Rattle.rules.specs.Board as rules
-use Rattle.rules.specs.declared.Refusal.the-variants.{Broken}
-use Rattle.rules.proofs.Tests.{or-false, or-true}
+use Rattle.rules.proofs.Tests.{or-false}
 use Rattle.domain.specs.Set.{setOf}
-use Rattle.domain.specs.declared.Counted.the-variants as counted
 use Rattle.closing.specs.Kinds.{kindOf}
 use Rattle.closing.specs.declared.Closing.{Closing}
 use Rattle.board.specs.Rows.{domainAt, nowhere, seat, withDomain, withRows}
-use Rattle.board.specs.Well.{wellBoard, lookOf}
+use Rattle.board.specs.Well.{wellBoard}
 use Rattle.board.specs.Answers.{said}
 use Rattle.board.specs.Obeys.{Whole, Obeys, toldOf}
 use Rattle.board.specs.declared.Board.{Board}
@@ -23,10 +21,8 @@ use Rattle.board.proofs.ViewLaws.{sound}
 use Rattle.board_close.specs.Close.{left}
 use Rattle.board_close.proofs.Closing.{close-known, close-unknown}
 use Rattle.board_close.proofs.Theorems.{close-obeys}
-use Rattle.batch.specs.Batch.{closedBy, closedAll, isYes, more, yeses, batchOf, closingOf}
-use Rattle.batch.specs.Tallies.{Fit, shutAt, tellsAt, tallied, untold, tallyOf}
-use Rattle.batch.specs.declared.Batched.{Batched}
-use Rattle.batch.specs.declared.Tally.{Tally}
+use Rattle.batch.specs.Batch.{closedBy, closedAll, isYes, more, yeses, closingOf}
+use Rattle.batch.specs.Tallies.{Fit, shutAt, tellsAt, tallied, tallyOf}
 use Rattle.batch.proofs.TallyLaws.{tally}
 
 -- the rows of a well-formed board

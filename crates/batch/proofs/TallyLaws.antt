@@ -1,8 +1,8 @@
 -- Rows closing by closing: each closing goes by the seat of its id, keeps every id where it stands, and leaves well-formed domains.
-use mathlib.Core.Path.{_≡_, refl, sym, ap, _∙_, subst}
+use mathlib.Core.Path.{_≡_, refl, sym, ap, _∙_}
 use mathlib.Core.Bool.{Bool, true, false, cond}
 use mathlib.Core.List.{List, [], _∷_, _++_, map}
-use Prim.Native.Nat.{ℕ, suc, _+_, _<_, _≤_}
+use Prim.Native.Nat.{ℕ, _+_, _<_, _≤_}
 use native.Mathlib.Numerals.{add-one}
 use native.Mathlib.Omega.{arith}
 use lib.Dec.{ltb}
@@ -19,7 +19,7 @@ use Rattle.closing.specs.declared.Closing.{Closing}
 use Rattle.closing.specs.declared.Kind.the-variants.{Remove}
 use Rattle.board.specs.Rows.{rowAt, idAt, domainAt, nowhere, seatIn, withDomain}
 use Rattle.board.specs.declared.Row.{Row}
-use Rattle.board.proofs.Seats.{seated, seat-agree}
+use Rattle.board.proofs.Seats.{seated}
 use Rattle.board.proofs.ViewLaws.{with-id, with-each}
 use Rattle.board_close.specs.Close.{left, shutOf}
 use Rattle.board_close.specs.declared.Shut.{Shut}

@@ -1,9 +1,8 @@
 -- What a batch of closings answers and what board it hands back, on every input: the closings one by one, each as the single closing's definition has it.
-use mathlib.Core.Bool.{Bool, true, false, cond}
+use mathlib.Core.Bool.{Bool, false, cond}
 use mathlib.Core.List.{List, [], _∷_}
 use Prim.Native.Nat.{ℕ, zero, suc}
 use Rattle.rules.specs.Board as rules
-use Rattle.rules.specs.declared.Refusal.{Refusal}
 use Rattle.rules.specs.declared.Refusal.the-variants.{Broken}
 use Rattle.domain.specs.declared.Told.{Told}
 use Rattle.domain.specs.declared.Told.the-variants as told

@@ -1,5 +1,5 @@
 -- A batch that goes on is the batch of all its closings.
-use mathlib.Core.Path.{_≡_, refl, sym, ap, _∙_, subst}
+use mathlib.Core.Path.{_≡_, refl, sym, ap, _∙_}
 use mathlib.Core.Bool.{Bool, true, false, _||_}
 use mathlib.Core.List.{List, [], _∷_, _++_}
 use Prim.Native.Nat.{ℕ, zero, suc, _+_, _<_, _≤_, _^_}
@@ -15,9 +15,8 @@ use Rattle.board.specs.Rows.{withRows}
 use Rattle.board.specs.Well.{wellBoard}
 use Rattle.board.specs.Obeys.{Whole}
 use Rattle.board.specs.declared.Board.{Board}
-use Rattle.board.specs.declared.Closed.{Closed}
 use Rattle.batch.specs.Batch.{closedBy, closedAll, isYes, more, yeses, batchOf}
-use Rattle.batch.specs.Tallies.{untold, tallied, tallyOf}
+use Rattle.batch.specs.Tallies.{untold, tallyOf}
 use Rattle.batch.specs.declared.Batched.{Batched}
 use Rattle.batch.specs.declared.Tally.{Tally}
 use Rattle.batch.proofs.TallyLaws.{more-most}

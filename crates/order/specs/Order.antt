@@ -1,6 +1,6 @@
 -- Two orderings of the numbers below n that are inverse to one another. Assumes nothing.
 use mathlib.Core.Path.{_≡_}
-use mathlib.Core.Bool.{Bool, true, false, _&&_}
+use mathlib.Core.Bool.{Bool, true, _&&_}
 use mathlib.Core.List.{List}
 use Prim.Native.Nat.{ℕ, zero, suc, _<_}
 use lib.Dec.{ltb, eqb}

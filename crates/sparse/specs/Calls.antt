@@ -1,6 +1,5 @@
 -- What each call answers, and what it leaves of the state and of both orderings, on every input. Assumes nothing.
 use mathlib.Core.Bool.{Bool, cond}
-use mathlib.Core.List.{List}
 use Prim.Native.Nat.{ℕ, _-_, _/_}
 use lib.Dec.{ltb, eqb}
 use lib.IntN.{ℤ, pos, _+ℤ_, _-ℤ_}
@@ -9,11 +8,10 @@ use Rattle.offset.specs.Places.{cutOf}
 use Rattle.rules.specs.declared.Refusal.{Refusal}
 use Rattle.rules.specs.declared.Refusal.the-variants.{Empty, BadState}
 use Rattle.rules.specs.declared.Value.{Value}
-use Rattle.sparse_inner.specs.declared.Sparse.{Sparse}
 use Rattle.sparse_inner.specs.declared.SparseState.{SparseState}
 use Rattle.sparse_inner.specs.declared.Verdict.{Verdict}
 use Rattle.sparse_inner.specs.declared.Verdict.the-variants.{Fine, Refused}
-use Rattle.sparse_inner.specs.Set.{Full, full, isHeld, placeIn, valueAt, stateOf, fitsB, verdictOf}
+use Rattle.sparse_inner.specs.Set.{Full, isHeld, placeIn, valueAt, stateOf, fitsB, verdictOf}
 use Rattle.sparse_inner.specs.Change.{dropAt, onlyAt, emptied, fromCut, underCut}
 use Rattle.sparse.specs.declared.Told.{Told}
 use Rattle.sparse.specs.declared.Told.the-variants as told

@@ -1,22 +1,22 @@
 -- The laws of adding an offset that is not held: it is exchanged with the cell at the size. Assumes nothing.
-use mathlib.Core.Path.{_≡_, refl, sym, ap, _∙_, subst}
+use mathlib.Core.Path.{_≡_, refl, sym, _∙_, subst}
 use mathlib.Core.Logic.{_≢_, _⊎_, inl, inr, ⊎-elim}
 use mathlib.Core.Bool.{Bool, true, false, cond}
 use mathlib.Core.List.{List}
-use Prim.Native.Nat.{ℕ, zero, suc, _+_, _-_, _≤_, _<_}
+use Prim.Native.Nat.{ℕ, _+_, _-_, _≤_, _<_}
 use native.Mathlib.Decide.{ℕ-discrete}
 use native.Mathlib.Nat.{eq-or-lt-of-le}
 use native.Mathlib.Omega.{arith}
-use lib.Dec.{ltb, eqb}
-use lib.ListN.{length, getD}
+use lib.Dec.{ltb}
+use lib.ListN.{getD}
 use borrow.Author.Tests.{ltb-true, ltb-false, lt-ltb, le-ltb, eq-eqb, ne-eqb}
 use Rattle.order.specs.Order.{swapped, Inverse}
 use Rattle.order.proofs.Orders.{ind-inj, ind-a, ind-b, ind-other, exchange-inverse, length-swapped}
 use Rattle.sparse_inner.specs.declared.Sparse.{Sparse}
-use Rattle.sparse_inner.specs.Set.{Full, full, Held, heldB, Bounds, Well, WellF}
+use Rattle.sparse_inner.specs.Set.{Full, full, Held, heldB, Well, WellF}
 use Rattle.sparse_inner.specs.Scan.{Greatest, Least, lowWith, highWith}
-use Rattle.sparse_inner.specs.Change.{highest, lowest, resized, added, addAt, holdsAt}
-use Rattle.sparse_inner.proofs.Sets.{of-held, held-of, greatest-is, least-is}
+use Rattle.sparse_inner.specs.Change.{resized, added, addAt, holdsAt}
+use Rattle.sparse_inner.proofs.Sets.{greatest-is, least-is}
 use Rattle.sparse_inner.proofs.Drops.{true-bounds}
 
 module _ (s : Sparse) (ind val : List ℕ) (W : Well s ind val) (o : ℕ) (ho : o < s .n) (out : s .size ≤ getD ind o 0) where

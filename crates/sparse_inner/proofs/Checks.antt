@@ -1,5 +1,5 @@
 -- The tests that a call makes say just what their propositions say: bounds, a state that fits, and a well-formed set. Assumes nothing.
-use mathlib.Core.Path.{_≡_, refl, sym, _∙_}
+use mathlib.Core.Path.{_≡_, refl}
 use mathlib.Core.Bool.{Bool, true, false, cond, _&&_}
 use mathlib.Core.List.{List}
 use Prim.Native.Nat.{ℕ, suc, _+_, _-_, _≤_, _<_}
@@ -14,12 +14,9 @@ use mir.Val.{SFits}
 use borrow.Author.Tests.{leb-true, le-leb, ltb-true, ltb-false, eqb-true, eq-eqb, ne-eqb}
 use Rattle.order.specs.Order.{Inverse, allB, inverseB}
 use Rattle.order.proofs.Orders.{and-left, and-right, and-both, all-at, all-of, inverse-of, of-inverse}
-use Rattle.sparse_inner.specs.declared.Sparse.{Sparse}
 use Rattle.sparse_inner.specs.declared.SparseState.{SparseState}
-use Rattle.sparse_inner.specs.declared.Verdict.{Verdict}
 use Rattle.sparse_inner.specs.declared.Verdict.the-variants.{Fine, Refused}
-use Rattle.rules.specs.declared.Refusal.the-variants.{Broken, TooWide, Short}
-use Rattle.sparse_inner.specs.Set.{Full, Held, heldB, Bounds, Well, WellF, between, boundsB, fitsB, stateOf, soundB, narrowB, roomB, verdict, verdictOf, bothOf, widest, valueAt}
+use Rattle.sparse_inner.specs.Set.{Full, Held, heldB, Bounds, WellF, between, boundsB, fitsB, stateOf, soundB, narrowB, roomB, verdict, verdictOf, bothOf}
 use Rattle.sparse_inner.proofs.Sets.{held-of, of-held}
 
 -- ---- the bounds

@@ -1,23 +1,22 @@
 -- Dropping an offset: what is left is well formed, holds what was held but that offset, and stands in a determined order. Assumes nothing.
-use mathlib.Core.Path.{_≡_, refl, sym, ap, _∙_, subst}
-use mathlib.Core.Logic.{_≢_, ⊎-elim}
+use mathlib.Core.Path.{_≡_, refl, sym, _∙_}
+use mathlib.Core.Logic.{⊎-elim}
 use mathlib.Core.Bool.{Bool, true, false, cond}
 use mathlib.Core.List.{List}
 use Prim.Native.Nat.{ℕ, zero, suc, _+_, _-_, _≤_, _<_}
-use native.Mathlib.Decide.{ℕ-discrete}
 use native.Mathlib.Nat.{eq-or-lt-of-le}
 use native.Mathlib.Omega.{arith}
-use lib.Dec.{ltb, eqb}
-use lib.ListN.{length, getD, take, set}
+use lib.Dec.{eqb}
+use lib.ListN.{getD, take, set}
 use lib.Seq.{take-set-le, take-set-lt, set-out, length-take-le}
-use borrow.Author.Tests.{ltb-true, lt-ltb, le-ltb, eq-eqb, ne-eqb}
-use Rattle.order.specs.Order.{swapped, Inverse}
-use Rattle.order.proofs.Orders.{length-swapped, not-yes}
+use borrow.Author.Tests.{ne-eqb}
+use Rattle.order.specs.Order.{swapped}
+use Rattle.order.proofs.Orders.{length-swapped}
 use Rattle.sparse_inner.specs.declared.Sparse.{Sparse}
 use Rattle.sparse_inner.specs.Set.{Full, full, Held, heldB, Bounds, Well, WellF}
 use Rattle.sparse_inner.specs.Scan.{Greatest, Least}
-use Rattle.sparse_inner.specs.Change.{highest, lowFrom, lowest, resized, holdsAt, indSwapped, valSwapped, dropped, dropAt}
-use Rattle.sparse_inner.proofs.Sets.{held-of, of-held, true-false, some, last-in, l-lt, l-at, left-held, left-ne, stays-held, inverse-left, least-is, greatest-is}
+use Rattle.sparse_inner.specs.Change.{highest, lowFrom, lowest, resized, holdsAt, dropped, dropAt}
+use Rattle.sparse_inner.proofs.Sets.{held-of, of-held, true-false, last-in, inverse-left, least-is, greatest-is}
 
 -- ---- the greatest and the least that a test takes, where it takes one
 record High (p : ℕ → Bool) (n r : ℕ) : Type 0 where

@@ -1,14 +1,14 @@
 -- All dropped but one offset, which is exchanged with cell 0. Assumes nothing.
-use mathlib.Core.Path.{_≡_, refl, sym, ap, _∙_, subst}
+use mathlib.Core.Path.{_≡_, refl, _∙_, subst}
 use mathlib.Core.Bool.{Bool, true, false, cond}
 use mathlib.Core.List.{List}
-use Prim.Native.Nat.{ℕ, _+_, _-_, _≤_, _<_}
+use Prim.Native.Nat.{ℕ, _-_, _<_}
 use native.Mathlib.Omega.{arith}
-use lib.ListN.{length, getD}
+use lib.ListN.{getD}
 use Rattle.order.specs.Order.{swapped, Inverse}
 use Rattle.order.proofs.Orders.{ind-inj, ind-a, exchange-inverse, length-swapped}
 use Rattle.sparse_inner.specs.declared.Sparse.{Sparse}
-use Rattle.sparse_inner.specs.Set.{Full, full, Held, heldB, Bounds, Well, WellF}
+use Rattle.sparse_inner.specs.Set.{Full, full, Held, Well, WellF}
 use Rattle.sparse_inner.specs.Change.{holdsAt, emptied, alone, onlyAt}
 use Rattle.sparse_inner.proofs.Sets.{held-of}
 use Rattle.sparse_inner.proofs.Runs.{emptied-well}

@@ -1,18 +1,14 @@
 -- Runs of drops: what they hold, that they leave a well-formed set, and that offsets which are not held may be passed over. Assumes nothing.
-use mathlib.Core.Path.{_≡_, refl, sym, ap, _∙_, subst}
-use mathlib.Core.Logic.{_≢_, ⊎-elim}
+use mathlib.Core.Path.{_≡_, refl, sym, ap, _∙_}
 use mathlib.Core.Bool.{Bool, true, false, not, cond, _&&_}
-use mathlib.Core.List.{List}
 use Prim.Native.Nat.{ℕ, zero, suc, _+_, _-_, _≤_, _<_}
 use native.Mathlib.Decide.{ℕ-discrete, decLe}
-use native.Mathlib.Nat.{eq-or-lt-of-le}
 use native.Mathlib.Omega.{arith}
-use lib.Dec.{ltb, leb, eqb}
-use lib.ListN.{length, getD}
-use borrow.Author.Tests.{ltb-true, lt-ltb, le-ltb, le-leb, lt-leb, eq-eqb, ne-eqb}
+use lib.Dec.{ltb, eqb}
+use lib.ListN.{length}
+use borrow.Author.Tests.{eq-eqb, ne-eqb}
 use Rattle.order.proofs.Orders.{length-swapped, not-yes}
-use Rattle.sparse_inner.specs.declared.Sparse.{Sparse}
-use Rattle.sparse_inner.specs.Set.{Full, full, Held, heldB, Bounds, Well, WellF}
+use Rattle.sparse_inner.specs.Set.{Full, Held, WellF}
 use Rattle.sparse_inner.specs.Change.{resized, holdsAt, dropped, dropAt, dropWhere, dropRun, emptied, fromCut, underCut}
 use Rattle.sparse_inner.proofs.Sets.{held-of, of-held, true-false, left-held, left-ne, stays-held}
 use Rattle.sparse_inner.proofs.Drops.{drop-held, drop-none, drop-at-well}

@@ -1,21 +1,21 @@
 -- The laws of a sparse set: its test of an offset, the bounds that a scan finds, and what dropping an offset leaves. Assumes nothing.
-use mathlib.Core.Path.{_≡_, refl, sym, ap, _∙_, subst}
+use mathlib.Core.Path.{_≡_, refl, sym, _∙_, subst}
 use mathlib.Core.Logic.{_≢_, _⊎_, ⊎-elim, inl, inr}
-use mathlib.Core.Bool.{Bool, true, false, cond, _&&_}
+use mathlib.Core.Bool.{Bool, true, false, cond}
 use mathlib.Core.List.{List}
 use Prim.Native.Nat.{ℕ, zero, suc, _+_, _-_, _≤_, _<_}
 use native.Mathlib.Decide.{ℕ-discrete}
 use native.Mathlib.Nat.{eq-or-lt-of-le}
 use native.Mathlib.Omega.{arith}
 use lib.Dec.{ltb, eqb}
-use lib.ListN.{length, getD}
+use lib.ListN.{getD}
 use borrow.Author.Tests.{ltb-true, lt-ltb, eq-eqb, ne-eqb}
 use Rattle.order.specs.Order.{swapped, Inverse}
-use Rattle.order.proofs.Orders.{and-left, and-right, ind-inj, ind-a, ind-b, ind-other, exchange-inverse, length-swapped}
+use Rattle.order.proofs.Orders.{and-left, and-right, ind-inj, ind-a, ind-b, ind-other, exchange-inverse}
 use Rattle.sparse_inner.specs.declared.Sparse.{Sparse}
-use Rattle.sparse_inner.specs.Set.{Held, heldB, Bounds, Well}
+use Rattle.sparse_inner.specs.Set.{Held, heldB, Well}
 use Rattle.sparse_inner.specs.Scan.{Spans, Greatest, Least}
-use Rattle.sparse_inner.specs.Change.{highest, lowFrom, lowest, resized}
+use Rattle.sparse_inner.specs.Change.{highest, lowFrom, lowest}
 
 -- ---- the test of an offset
 module _ (ind : List ℕ) (n size o : ℕ) where

@@ -4,12 +4,11 @@ use mathlib.Core.List.{List, [], _∷_, map}
 use Prim.Native.Nat.{ℕ, zero, suc, _+_, _≤_, _<_}
 use native.Mathlib.Numerals.{add-one}
 use native.Mathlib.Omega.{arith}
-use lib.IntN.{ℤ, pos}
+use lib.IntN.{pos}
 use lib.ListN.{length, getD, take, drop, drop-of-length-le}
 use lib.Seq.{drop-cons, length-take-le, getD-take}
 use mir.Syntax.{w32}
 use mir.Val.{SFits}
-use Rattle.rules.specs.Sets.{Chutes}
 use Rattle.sparse_inner.proofs.Checks.{value-fits}
 use Rattle.sparse_inner.specs.Set.{Full, WellF, valueAt, setOf}
 

@@ -1,7 +1,6 @@
 -- What the calls on one set hold after them, value by value. Assumes nothing.
-use mathlib.Core.Path.{_≡_, refl, sym, ap, _∙_, subst}
+use mathlib.Core.Path.{_≡_, refl, sym, ap, _∙_}
 use mathlib.Core.Bool.{Bool, true, false, not, cond, _&&_}
-use mathlib.Core.List.{List}
 use mathlib.Core.Logic.{⊎-elim}
 use Prim.Native.Nat.{ℕ, zero, suc, _+_, _-_, _≤_, _<_}
 use native.Mathlib.Decide.{ℕ-discrete, decLe}
@@ -16,12 +15,12 @@ use Rattle.offset.specs.Places.{cutOf}
 use Rattle.offset.specs.Universe.{place-value, below-cut, upto-cut, cut-le}
 use Rattle.rules.specs.Sets.{same}
 use Rattle.order.proofs.Orders.{not-yes, length-swapped}
-use Rattle.sparse_inner.specs.Set.{Full, full, Held, heldB, WellF, placeIn, valueAt, isHeld}
+use Rattle.sparse_inner.specs.Set.{Full, heldB, WellF, placeIn, isHeld}
 use Rattle.sparse_inner.specs.Change.{holdsAt, dropAt, dropWhere, dropRun, emptied, alone, onlyAt, fromCut, underCut}
-use Rattle.sparse_inner.proofs.Sets.{true-false, held-of, of-held}
+use Rattle.sparse_inner.proofs.Sets.{held-of, of-held}
 use Rattle.sparse_inner.proofs.Only.{only-o, o-held}
-use Rattle.sparse_inner.proofs.Runs.{Frame, drop-holds, drop-frame, hold-of, of-hold, where-well, where-frame, low-idle, high-idle}
-use Rattle.sparse_laws.proofs.Held.{held-value, same-place}
+use Rattle.sparse_inner.proofs.Runs.{Frame, drop-holds, drop-frame, hold-of, where-well, where-frame, low-idle, high-idle}
+use Rattle.sparse_laws.proofs.Held.{same-place}
 
 -- ---- Bool
 and-false : (b : Bool) → b && false ≡ false

@@ -1,24 +1,23 @@
 -- A well-formed set as a plain set: its members are the values of the first cells, each once; their number is the size; the bounds are the smallest
 -- and the largest of them. Assumes nothing.
 use mathlib.Core.Path.{_≡_, refl, sym, ap, _∙_, subst}
-use mathlib.Core.Bool.{Bool, true, false, not, cond, _&&_, _||_}
-use mathlib.Core.List.{List, [], _∷_}
+use mathlib.Core.Bool.{Bool, true, false}
+use mathlib.Core.List.{[], _∷_}
 use mathlib.Core.Logic.{⊎-elim}
-use Prim.Native.Nat.{ℕ, zero, suc, _+_, _≤_, _<_}
+use Prim.Native.Nat.{ℕ, zero, suc, _<_}
 use native.Mathlib.Decide.{ℕ-discrete}
 use native.Mathlib.Omega.{arith}
-use lib.Dec.{T, eqb, ltb}
-use lib.IntN.{ℤ, pos, _+ℤ_, _-ℤ_}
+use lib.Dec.{T, eqb}
+use lib.IntN.{ℤ, pos}
 use lib.ListN.{length, getD}
 use lib.Signed.{leZ}
-use borrow.Author.Tests.{lt-ltb, ltb-true, eq-eqb, ne-eqb, le-leb}
-use Rattle.offset.specs.Places.{placeOf}
+use borrow.Author.Tests.{eq-eqb, ne-eqb, le-leb}
 use Rattle.offset.specs.Universe.{place-value, value-place, value-inj, value-le}
 use Rattle.rules.specs.Sets.{Chutes, has, same, Different}
 use Rattle.rules.proofs.SetLaws.{has-cons, has-head, has-tail, same→eq, same-refl}
 use Rattle.rules.proofs.Tests.{is-true, is-false, true-is}
 use Rattle.sparse_inner.specs.declared.Sparse.{Sparse}
-use Rattle.sparse_inner.specs.Set.{Full, Held, heldB, WellF, placeIn, valueAt, setOf, isHeld}
+use Rattle.sparse_inner.specs.Set.{Full, Held, WellF, placeIn, valueAt, setOf, isHeld}
 use Rattle.sparse_inner.specs.Change.{holdsAt}
 use Rattle.sparse_inner.proofs.Sets.{true-false}
 use Rattle.sparse_inner.proofs.Runs.{hold-of, of-hold}

@@ -1,14 +1,14 @@
 -- What a set holds that was made: all of its universe, or just the values that it was made from. Assumes nothing.
-use mathlib.Core.Path.{_≡_, refl, sym, ap, _∙_, subst}
+use mathlib.Core.Path.{_≡_, refl, sym, ap, _∙_}
 use mathlib.Core.Bool.{Bool, true, false, not, cond, _&&_}
-use mathlib.Core.List.{List, [], _∷_}
+use mathlib.Core.List.{List, _∷_}
 use Prim.Native.Nat.{ℕ, zero, suc, _+_, _-_, _≤_, _<_}
 use native.Mathlib.Decide.{ℕ-discrete, decLe}
 use native.Mathlib.Omega.{arith}
 use native.Mathlib.Nat.{eq-or-lt-of-le}
 use mathlib.Core.Logic.{⊎-elim}
-use lib.Dec.{T, ltb, leb, eqb}
-use lib.IntN.{ℤ, pos, _+ℤ_, _-ℤ_}
+use lib.Dec.{ltb, eqb}
+use lib.IntN.{ℤ, _-ℤ_}
 use lib.ListN.{getD}
 use lib.Signed.{leZ}
 use borrow.Author.Tests.{ltb-true, lt-ltb, le-ltb, eq-eqb, ne-eqb}
@@ -19,10 +19,10 @@ use Rattle.offset.specs.Universe.{place-value, place-range}
 use Rattle.order.specs.Order.{counted}
 use Rattle.order.proofs.Counted.{counted-at}
 use Rattle.rules.specs.Sets.{Chutes, has}
-use Rattle.rules.proofs.Tests.{is-true, is-false, true-is, and-both}
+use Rattle.rules.proofs.Tests.{is-true, true-is}
 use Rattle.sparse_inner.specs.Set.{Full, heldB, WellF, placeIn, valueAt, isHeld}
 use Rattle.sparse_inner.specs.Change.{holdsAt, dropWhere, dropAt}
-use Rattle.sparse_inner.proofs.Runs.{Frame, drop-holds, where-well, where-frame, hold-of}
+use Rattle.sparse_inner.proofs.Runs.{drop-holds, where-well, where-frame}
 use Rattle.sparse_make.specs.Calls.{filled, siftedOf}
 use Rattle.sparse_make.proofs.Makes.{Room}
 use Rattle.sparse_laws.proofs.Drops.{by-value}

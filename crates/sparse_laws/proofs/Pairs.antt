@@ -1,21 +1,20 @@
 -- What the calls on two sets hold after them, value by value. Assumes nothing.
-use mathlib.Core.Path.{_≡_, refl, sym, ap, _∙_, subst}
+use mathlib.Core.Path.{_≡_, refl, sym, ap, _∙_}
 use mathlib.Core.Bool.{Bool, true, false, not, cond, _&&_, _||_}
-use mathlib.Core.List.{List, [], _∷_}
-use mathlib.Core.Logic.{_⊎_, inl, inr, ⊎-elim}
-use Prim.Native.Nat.{ℕ, _+_, _≤_, _<_}
+use mathlib.Core.List.{[], _∷_}
+use mathlib.Core.Logic.{_⊎_, ⊎-elim}
+use Prim.Native.Nat.{ℕ, _+_}
 use native.Mathlib.Decide.{ℕ-discrete}
 use native.Mathlib.Omega.{arith}
 use lib.Dec.{T, ltb, eqb}
 use lib.IntN.{ℤ, _-ℤ_}
-use lib.ListN.{length, getD}
-use borrow.Author.Tests.{ltb-true, ltb-false, lt-ltb, le-ltb, eq-eqb, ne-eqb}
+use borrow.Author.Tests.{ltb-true, eq-eqb, ne-eqb}
 use Rattle.offset.specs.Places.{placeOf}
 use Rattle.order.proofs.Orders.{not-yes, length-swapped}
 use Rattle.rules.specs.Sets.{Chutes, has, same, keep, every, Within}
 use Rattle.rules.proofs.SetLaws.{has-keep, has-head, has-tail, has-cons, same→eq, covers, same-size}
-use Rattle.rules.proofs.Tests.{is-true, is-false, true-is, and-left, and-right, and-both}
-use Rattle.sparse_inner.specs.Set.{Full, full, Held, heldB, WellF, placeIn, setOf, isHeld}
+use Rattle.rules.proofs.Tests.{true-is, and-left, and-right, and-both}
+use Rattle.sparse_inner.specs.Set.{Full, Held, heldB, WellF, placeIn, setOf, isHeld}
 use Rattle.sparse_inner.specs.Change.{holdsAt, dropAt, added, addAt, resized}
 use Rattle.sparse_inner.proofs.Sets.{true-false, held-of, of-held}
 use Rattle.sparse_inner.proofs.Drops.{drop-at-well}

@@ -21,7 +21,7 @@ use Rattle.sparse_inner.specs.declared.Sparse.{Sparse}
 use Rattle.sparse_inner.specs.declared.SparseState.{SparseState}
 use Rattle.sparse_inner.specs.declared.Verdict.{Verdict}
 use Rattle.sparse_inner.specs.declared.Verdict.the-variants.{Fine, Refused}
-use Rattle.sparse_inner.specs.Set.{Full, full, over, Held, heldB, Well, WellF, placeIn, setOf, isHeld, stateOf, fitsB, verdictOf, bothOf}
+use Rattle.sparse_inner.specs.Set.{Full, full, over, Held, heldB, Well, WellF, placeIn, isHeld, stateOf, fitsB, verdictOf, bothOf}
 use Rattle.sparse_inner.specs.Change.{holdsAt, dropped, dropAt, dropWhere, dropRun, emptied, alone, onlyAt, fromCut, underCut, resized}
 use Rattle.sparse_inner.proofs.Sets.{held-of, of-held, l-lt, l-at}
 use Rattle.sparse_inner.proofs.Checks.{Fits, fits-of, of-fits, of-well}

@@ -1,30 +1,24 @@
 -- Each call on a well-formed set, seen through the plain set of held values: it is accepted, it answers and holds what 01 says, and what it leaves is
 -- well formed. Assumes nothing.
-use mathlib.Core.Path.{_≡_, refl, sym, ap, _∙_}
-use mathlib.Core.Bool.{Bool, true, false, not, cond, _&&_, _||_}
-use mathlib.Core.List.{List}
-use Prim.Native.Nat.{ℕ, _-_, _≤_}
-use native.Mathlib.Omega.{arith}
+use mathlib.Core.Path.{_≡_, sym, ap, _∙_}
+use mathlib.Core.Bool.{Bool, true, false, not, _&&_, _||_}
+use Prim.Native.Nat.{_-_, _≤_}
 use lib.IntN.{ℤ, pos, _+ℤ_, _-ℤ_}
-use lib.ListN.{length, getD, take, set}
+use lib.ListN.{length, set}
 use lib.Signed.{ltZ, leZ}
 use borrow.Author.Tests.{le-ltb}
 use Rattle.offset.specs.Places.{cutOf}
 use Rattle.rules.specs.Sets.{Chutes, has, same}
 use Rattle.rules.specs.declared.Value.{Value}
-use Rattle.sparse_inner.specs.declared.Verdict.the-variants.{Fine}
-use Rattle.sparse_inner.specs.Set.{Full, over, WellF, placeIn, valueAt, setOf, isHeld, verdictOf, bothOf}
-use Rattle.sparse_inner.specs.Change.{holdsAt, dropped, dropAt, emptied, onlyAt, fromCut, underCut}
+use Rattle.sparse_inner.specs.Set.{Full, WellF, placeIn, setOf, isHeld}
+use Rattle.sparse_inner.specs.Change.{dropAt, emptied, onlyAt, fromCut, underCut}
 use Rattle.sparse_inner.proofs.Checks.{of-well, of-both}
-use Rattle.sparse_inner.proofs.Drops.{drop-at-well, drop-held, left-list}
+use Rattle.sparse_inner.proofs.Drops.{drop-at-well}
 use Rattle.sparse_inner.proofs.Only.{only-at-well}
-use Rattle.sparse_inner.proofs.Runs.{hold-of, emptied-well, from-cut-well, under-cut-well}
-use Rattle.sparse.specs.Calls.{After, after, removeOf, removeAllOf, removeAllButOf, removeBelowOf, removeAboveOf}
-use Rattle.sparse.specs.declared.Told.{Told}
+use Rattle.sparse_inner.proofs.Runs.{emptied-well, from-cut-well, under-cut-well}
+use Rattle.sparse.specs.Calls.{removeOf, removeAllOf, removeAllButOf, removeBelowOf, removeAboveOf}
 use Rattle.sparse.specs.declared.Told.the-variants as told
-use Rattle.sparse.specs.declared.Outcome.{Outcome}
-use Rattle.sparse.specs.declared.Outcome.the-variants as outcome
-use Rattle.sparse_pairs.specs.Calls.{dropEach, addEach, Pared, pared, parted, partOf, intersectOf, diffOf, unionOf}
+use Rattle.sparse_pairs.specs.Calls.{dropEach, addEach, parted, partOf, intersectOf, diffOf, unionOf}
 use Rattle.sparse_laws.proofs.Held.{members}
 use Rattle.sparse_laws.proofs.Drops.{remove-holds, remove-all-holds, remove-all-but-holds, remove-below-holds, remove-above-holds}
 use Rattle.sparse_laws.proofs.Pairs.{inside, each-well, intersect-holds, diff-holds, added-well, union-holds}
@@ -50,11 +44,6 @@ module _ (f : Full) (W : WellF f) where
   pub remove-set : (v : Value) → Holds (removeOf f v .left) (λ z. has z (setOf f) && not (same z (v .0)))
   unfolding removeOf
   remove-set v = rw (of-well f W) (holding (dropAt f (placeIn (f .set) (v .0))) (λ z. has z (setOf f) && not (same z (v .0))) (drop-at-well f (placeIn (f .set) (v .0)) W) (λ z. remove-holds f (v .0) W z ∙ also (λ x. not (same x (v .0))) z))
-
-  -- and the last held value stands where it stood
-  pub remove-order : (v : Value) → isHeld f (v .0) ≡ true → take (f .set .size - 1) (removeOf f v .left .val) ≡ set (take (f .set .size - 1) (f .val)) (getD (f .ind) (placeIn (f .set) (v .0)) 0) (getD (f .val) (f .set .size - 1) 0)
-  unfolding removeOf isHeld dropped
-  remove-order v e = rw (of-well f W, drop-held f (placeIn (f .set) (v .0)) e) (left-list (f .set) (f .ind) (f .val) W (placeIn (f .set) (v .0)) (hold-of f (placeIn (f .set) (v .0)) e))
 
   pub remove-all-set : Holds (removeAllOf f .left) (λ z. false)
   unfolding removeAllOf

@@ -6,7 +6,7 @@ use Prim.Native.Nat.{ℕ, zero, suc, _+_, _-_, _≤_, _<_}
 use native.Mathlib.Omega.{arith}
 use lib.Dec.{leb, ltb}
 use lib.IntN.{ℤ, pos, negsuc, _+ℤ_, +ℤ-idr}
-use lib.ListN.{length, getD}
+use lib.ListN.{length}
 use lib.Signed.{leZ, mag}
 use mir.Syntax.{w32}
 use mir.Val.{SFits}
@@ -18,7 +18,7 @@ use Rattle.order.proofs.Counted.{length-counted, counted-at, counted-inverse}
 use Rattle.order.proofs.Orders.{and-left, and-right}
 use Rattle.rules.specs.declared.Refusal.the-variants.{TooWide, Short}
 use Rattle.sparse_inner.specs.declared.Verdict.the-variants.{Fine, Refused}
-use Rattle.sparse_inner.specs.Set.{Full, Held, WellF, widest}
+use Rattle.sparse_inner.specs.Set.{Held, WellF, widest}
 use Rattle.ends.specs.Ends.{smallestOf, largestOf}
 use Rattle.rules.specs.Sets.{Chutes}
 use Rattle.sparse_make.specs.declared.Made.the-variants.{Set}

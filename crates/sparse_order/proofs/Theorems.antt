@@ -22,7 +22,7 @@ use Rattle.rules.proofs.Tests.{is-true}
 use Rattle.sparse_inner.specs.declared.Sparse.{Sparse}
 use Rattle.sparse_inner.specs.declared.SparseState.{SparseState}
 use Rattle.sparse_inner.specs.Set.{Full, full, WellF, placeIn, valueAt, setOf, isHeld, fitsB, over}
-use Rattle.sparse_inner.specs.Change.{holdsAt, dropped, alone, onlyAt, emptied}
+use Rattle.sparse_inner.specs.Change.{holdsAt, alone, onlyAt, emptied}
 use Rattle.sparse_inner.proofs.Checks.{of-well, of-both}
 use Rattle.sparse_inner.proofs.Drops.{drop-held}
 use Rattle.sparse_inner.proofs.Runs.{hold-of}

@@ -1,9 +1,7 @@
 -- What the calls on two sets answer, and what they leave of the first set and of the scratch, on every input. Assumes nothing.
 use mathlib.Core.Bool.{Bool, true, false, not, cond, _&&_}
 use mathlib.Core.List.{[], _∷_}
-use Prim.Native.Nat.{ℕ}
 use lib.Dec.{ltb, eqb}
-use lib.IntN.{ℤ}
 use lib.ListN.{length}
 use Rattle.rules.specs.Sets.{Chutes, keep, every}
 use Rattle.rules.specs.declared.Refusal.the-variants.{NoRoom}

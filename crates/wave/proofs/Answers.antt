@@ -1,6 +1,5 @@
 -- What a list of at most 64 ids is answered is terse. Assumes nothing.
-use mathlib.Core.Path.{_≡_, refl}
-use mathlib.Core.Bool.{Bool, true, false, not, cond}
+use mathlib.Core.Bool.{Bool, not}
 use mathlib.Core.List.{List, [], _∷_, map}
 use Prim.Native.Nat.{ℕ, suc, _+_, _≤_}
 use native.Mathlib.Omega.{arith}
@@ -9,8 +8,6 @@ use lib.ListN.{length}
 use Rattle.rules.specs.Sets.{Every}
 use Rattle.rules.specs.Pass.{pass}
 use Rattle.rules.specs.Board as rules
-use Rattle.rules.specs.declared.Refusal.{Refusal}
-use Rattle.rules.specs.declared.Refusal.the-variants.{Unknown, Repeated, TooLong}
 use Rattle.rules.proofs.Tests.{on-cond}
 use Rattle.sheet_form.specs.Sheet.{All}
 use Rattle.wave_form.specs.Wave.{lineBy}

@@ -1,5 +1,5 @@
 -- Destinations stay brief, whatever the calls of a sheet: closings and passes only take chutes away. Assumes nothing.
-use mathlib.Core.Path.{_≡_, refl, sym, ap, _∙_, subst}
+use mathlib.Core.Path.{_≡_, refl, sym, ap, subst}
 use mathlib.Core.Bool.{Bool, true, false, not, cond}
 use mathlib.Core.List.{List, [], _∷_, _++_, map, append-assoc}
 use Prim.Native.Nat.{ℕ, zero, suc, _+_, _^_, _≤_, _<_, suc-le-suc}
@@ -30,7 +30,7 @@ use Rattle.closing.specs.Kinds.{kindOf}
 use Rattle.closing.specs.declared.Closing.{Closing}
 use Rattle.sheet_form.specs.declared.Destination.{Destination}
 use Rattle.sheet_form.specs.Sheet.{Sheet, All}
-use Rattle.wave_form.specs.Wave.{registers, closes, openingOf, callsOf}
+use Rattle.wave_form.specs.Wave.{registers, closes, callsOf}
 use Rattle.wave_print.proofs.Room.{Brief}
 
 pub record Small (s : Chutes) : Type 0 where

@@ -1,5 +1,5 @@
 -- Text made in bytes of its own and then copied, where it fits. Assumes nothing.
-use mathlib.Core.Path.{_≡_, sym, ap, _∙_}
+use mathlib.Core.Path.{_≡_, ap, _∙_}
 use mathlib.Core.List.{List, _++_}
 use Prim.Native.Nat.{ℕ, _+_, _≤_, _<_}
 use native.Mathlib.Nat.{zero-add}
@@ -10,7 +10,7 @@ use lib.Seq.{take-append-seam}
 use Rattle.rules.specs.declared.Refusal.the-variants.{NoRoom}
 use Rattle.domain.specs.declared.Counted.the-variants.{Count}
 use Rattle.domain_text.specs.Text.{writes, refuses}
-use Rattle.decimal.specs.Put.{Put, putOf}
+use Rattle.decimal.specs.Put.{Put}
 use Rattle.decimal.proofs.Puts.{put-cells}
 use Rattle.wave_print.proofs.Pieces.{Puts, next-is}
 

@@ -1,18 +1,16 @@
 -- The lines one at a time. Assumes nothing.
-use mathlib.Core.Path.{_≡_, refl, sym, ap, ap₂, _∙_}
-use mathlib.Core.Bool.{Bool, true, false, cond}
+use mathlib.Core.Path.{_≡_, sym, ap, _∙_}
+use mathlib.Core.Bool.{Bool, false, cond}
 use mathlib.Core.List.{List, [], _∷_, _++_}
 use Prim.Native.Nat.{ℕ, suc, _+_, _-_, _≤_, _<_}
-use native.Mathlib.Nat.{sub-zero, zero-add}
+use native.Mathlib.Nat.{sub-zero}
 use native.Mathlib.Numerals.{add-one}
 use native.Mathlib.Omega.{arith}
 use borrow.Author.Tests.{eq-eqb, ne-eqb}
-use lib.ListN.{length, getD, take, drop, length-append}
+use lib.ListN.{length, getD, take, drop}
 use lib.Seq.{drop-cons, drop-length, getD-take, length-take-le}
-use Rattle.decimal.specs.Put.{Put, putOf}
+use Rattle.decimal.specs.Put.{putOf}
 use Rattle.decimal.proofs.Puts.{put-more, put-end}
-use Rattle.rules.specs.Sets.{Chutes}
-use Rattle.rules.specs.Board as rules
 use Rattle.board.specs.View.{rowsFrom, rowsOf, heldAt}
 use Rattle.board.specs.Rows.{idAt}
 use Rattle.board.specs.declared.Row.{Row}

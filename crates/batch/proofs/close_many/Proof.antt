@@ -1,13 +1,11 @@
 -- `batch::close_many` meets its contract: `look` tells a board that isn't well formed, and of one that is the rows are tallied. Assumes nothing.
 use mathlib.Core.Path.{_≡_, sym, ap, _∙_}
 use mathlib.Core.Bool.{true}
-use mathlib.Core.List.{List}
 use mathlib.Core.Logic.{⊎-elim}
-use Prim.Native.Nat.{ℕ, _≤_}
+use Prim.Native.Nat.{ℕ}
 use native.Mathlib.Omega.{arith}
 use lib.ListN.{length, take}
 use lib.Seq.{take-all}
-use Rattle.closing.specs.declared.Closing.{Closing}
 use Rattle.board.specs.Well.{wellBoard}
 use Rattle.board.specs.Obeys.{Whole}
 use Rattle.board.proofs.LookLaws.{looked-broken, looked-well}
@@ -15,7 +13,7 @@ use Rattle.board.proofs.ViewLaws.{mapped}
 use Rattle.batch.specs.Tallies.{untold, tallyOf}
 use Rattle.batch.proofs.TallyLaws.{all-closings}
 use Rattle.batch.proofs.BoardLaws.{board-fit}
-use Rattle.batch.proofs.Theorems.{refused, batch-refuses, tally-batch}
+use Rattle.batch.proofs.Theorems.{batch-refuses, tally-batch}
 use borrow.Author.Needs.{needs}
 use Rattle.batch.proofs.close_many.Statement.{statement}
 use Rattle.batch.proofs.close_many.Tie as tie

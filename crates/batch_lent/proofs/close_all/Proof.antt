@@ -9,7 +9,7 @@ use Prim.Native.Nat.{ℕ, _+_, _-_, _*_, _≤_, _<_, _^_}
 use native.Mathlib.Nat.{le-of-lt, lt-of-le-of-lt, lt-trans, mul-le-mul-right}
 use native.Mathlib.Numerals.{add-one-dec}
 use native.Mathlib.Omega.{arith}
-use lib.Dec.{T, lit<, ltb, eqb, eqb→eq}
+use lib.Dec.{T, lit<, ltb, eqb}
 use lib.ListN.{length, getD, set, take, length-map}
 use lib.WfN.{Nat·lt-wfRel}
 use borrow.Author.Tests.{ltb-true, ltb-false, eq-eqb}
@@ -25,7 +25,7 @@ use prog.Wp.{Heap, Env, Out, Wp, WpFn, Tables, afterSeq, afterBlock, afterTurn, 
 use ghost.Atoms.{Atoms, sem}
 use contract.Monad.{Fun, fact}
 use contract.Running.{givenOf, tables, tablesOf}
-use types.Kit.{Given, Item, ‵, raw, given, _⊛_, ⋆, some, later, runs, anyQ, atRet, Sq, _$_, _∵_, !, qed, by, move, keep, drop, use0, use1, split, join, pick, learn, check, rewrite, fsplit, fjoin, fpick, fpack, feqI, suffices, frame, await, done}
+use types.Kit.{Given, Item, ‵, raw, given, _⊛_, some, later, runs, anyQ, atRet, Sq, _$_, _∵_, !, qed, by, move, keep, drop, use0, use1, split, join, pick, learn, check, rewrite, fsplit, fjoin, fpick, fpack, feqI, suffices, frame, await, done}
 use types.Run.{look, look-raw, init, store, store-raw, forget, stop, hop, fld, from, load, lit, of-opd, bin, addr, and-then, no-more, assigns, assigns-last, first, blocks, skips, branches, stays, leaves-loop, land, returns, enter, alloc1, alloc0, params1, pass1, pass0, free1, free0, exec, Below, again, loops}
 use types.Part.{whole, sub, look-in}
 use types.Share.{arr-parts}
@@ -64,7 +64,7 @@ use Rattle.batch.specs.declared.Batched.{Batched}
 use Rattle.batch.proofs.Batched as T
 use Rattle.batch.proofs.Batched.Laws as T′
 use Rattle.batch.proofs.TallyLaws.{none}
-use Rattle.batch_lent.specs.Further.{Going, blankRun, furtherOf}
+use Rattle.batch_lent.specs.Further.{Going, furtherOf}
 use Rattle.batch_lent.proofs.RunLaws.{short-of, Filled, filled-none, filled-more, filled-anew, all-handed, ready}
 use Rattle.batch_lent.proofs.blank as blank
 use Rattle.batch_lent.proofs.blank.Symbol as blank-def

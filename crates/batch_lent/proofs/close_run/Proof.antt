@@ -24,7 +24,6 @@ use types.Part.{agg}
 use types.Share.{arr-parts}
 use types.Tokens.{lft-new, lft-end, lent-back}
 use sound.WpLaws.{FmC, fmOf, WpFn-mono}
-use denote.RattleType.{owns}
 use denote.Builtin.{ArrayOf}
 use denote.Signature.{plain}
 use denote.Array.{Array, arrayVal, array-vals, array-tells, array-lawful, array-makes}

@@ -1,11 +1,8 @@
 -- `order::is_inverse` meets its contract: every number below i leads back to itself, and once all do the two are inverse. Assumes nothing.
 use mathlib.Core.Path.{_≡_, sym, subst}
-use mathlib.Core.Bool.{true, false}
-use Prim.Native.Nat.{ℕ, _+_, _-_, _≤_, _<_}
+use Prim.Native.Nat.{ℕ, _-_, _≤_}
 use native.Mathlib.Omega.{arith}
-use lib.ListN.{length, getD}
 use borrow.Author.Needs.{needs}
-use Rattle.order.specs.Order.{inverseB}
 use Rattle.order.proofs.Orders.{inverse-of, not-yes}
 use Rattle.order.proofs.OneWay.{Back, back-more, all-back}
 use Rattle.order.proofs.is_inverse.Statement.{statement}

@@ -1,15 +1,13 @@
 -- `sparse_inner::add_at` meets its contract: the offset is exchanged with the cell at the size. Assumes nothing.
-use mathlib.Core.Path.{_≡_, refl, sym, ap, _∙_}
-use mathlib.Core.Bool.{true, false}
+use mathlib.Core.Path.{_≡_, sym, ap, _∙_}
+use mathlib.Core.Bool.{false}
 use mathlib.Core.List.{List}
 use Prim.Native.Nat.{ℕ, _-_, _≤_, _<_}
 use native.Mathlib.Omega.{arith}
-use lib.ListN.{length, getD}
-use borrow.Author.Tests.{not-true, not-false}
+use lib.ListN.{getD}
 use Rattle.order.specs.Order.{swapped}
-use Rattle.order.proofs.Orders.{length-swapped}
 use Rattle.sparse_inner.specs.declared.Sparse.{Sparse}
-use Rattle.sparse_inner.specs.Set.{Full, full, heldB, Held, Well}
+use Rattle.sparse_inner.specs.Set.{heldB}
 use Rattle.sparse_inner.proofs.Adds.{room, l-lt, l-at, not-held, outside, already, added-is, least-with, greatest-with}
 use borrow.Author.Needs.{needs}
 use Rattle.sparse_inner.proofs.add_at.Statement.{statement}

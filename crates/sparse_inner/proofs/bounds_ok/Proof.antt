@@ -1,13 +1,13 @@
 -- `sparse_inner::bounds_ok` meets its contract. The invariant: every cell below k has a value between the two. Assumes nothing.
 use mathlib.Core.Path.{_≡_, sym, _∙_, subst}
-use mathlib.Core.Bool.{true, false}
-use Prim.Native.Nat.{ℕ, _+_, _-_, _≤_, _<_}
+use mathlib.Core.Bool.{true}
+use Prim.Native.Nat.{ℕ, _-_, _≤_}
 use native.Mathlib.Omega.{arith}
-use lib.ListN.{length, getD}
+use lib.ListN.{getD}
 use borrow.Author.Needs.{needs}
 use borrow.Author.Tests.{not-true, not-false, le-leb}
 use Rattle.order.specs.Order.{allB}
-use Rattle.sparse_inner.specs.Set.{heldB, boundsB, between}
+use Rattle.sparse_inner.specs.Set.{between}
 use Rattle.order.proofs.Orders.{all-none, all-more, not-yes, and-both}
 use Rattle.sparse_inner.proofs.Sets.{true-false}
 use Rattle.sparse_inner.proofs.Checks.{bounds-yes, yes-bounds}

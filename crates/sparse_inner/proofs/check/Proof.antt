@@ -1,9 +1,8 @@
 -- `sparse_inner::check` meets its contract: it makes the three tests in their order. Assumes nothing.
 use mathlib.Core.Path.{_≡_, sym, _∙_}
-use mathlib.Core.Bool.{true, false}
-use lib.Dec.{leb}
+use mathlib.Core.Bool.{true}
 use borrow.Author.Tests.{lt-leb, le-leb, not-true, not-false}
-use Rattle.sparse_inner.specs.Set.{Full, full, roomB, soundB, narrowB, verdictOf}
+use Rattle.sparse_inner.specs.Set.{Full, full, roomB, narrowB, verdictOf}
 use Rattle.sparse_inner.proofs.Checks.{room-of}
 use borrow.Author.Needs.{needs}
 use Rattle.sparse_inner.proofs.check.Statement.{statement}

@@ -1,7 +1,6 @@
 -- `sparse_inner::check_both` meets its contract: it makes each test on both sets before the next. Assumes nothing.
 use mathlib.Core.Path.{_≡_, sym, _∙_}
-use mathlib.Core.Bool.{true, false}
-use lib.Dec.{leb}
+use mathlib.Core.Bool.{true}
 use borrow.Author.Tests.{lt-leb, le-leb, not-true, not-false}
 use Rattle.sparse_inner.specs.Set.{Full, full, roomB, soundB, narrowB, bothOf}
 use Rattle.sparse_inner.proofs.Checks.{room-of}

@@ -1,15 +1,15 @@
 -- `sparse_inner::drop_at` meets its contract: the offset is exchanged with the last held one, and a bound is looked for where it was one. Assumes nothing.
-use mathlib.Core.Path.{_≡_, refl, sym, ap, _∙_}
-use mathlib.Core.Bool.{true, false}
+use mathlib.Core.Path.{_≡_, sym, ap, _∙_}
+use mathlib.Core.Bool.{true}
 use mathlib.Core.List.{List}
-use Prim.Native.Nat.{ℕ, _-_, _≤_, _<_}
+use Prim.Native.Nat.{ℕ, _-_}
 use native.Mathlib.Omega.{arith}
-use lib.ListN.{length, getD}
+use lib.ListN.{getD}
 use borrow.Author.Tests.{not-true, not-false}
 use Rattle.order.specs.Order.{swapped}
 use Rattle.order.proofs.Orders.{length-swapped}
 use Rattle.sparse_inner.specs.declared.Sparse.{Sparse}
-use Rattle.sparse_inner.specs.Set.{Full, full, heldB, Held, Well}
+use Rattle.sparse_inner.specs.Set.{full, heldB, Held}
 use Rattle.sparse_inner.proofs.Sets.{held-of, l-lt, l-at, spans-left}
 use Rattle.sparse_inner.proofs.Drops.{dropped-is, drop-none}
 use borrow.Author.Needs.{needs}

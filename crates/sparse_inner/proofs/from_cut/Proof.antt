@@ -1,11 +1,9 @@
 -- `sparse_inner::from_cut` meets its contract: offsets below the smallest held one need no turn. Assumes nothing.
-use mathlib.Core.Path.{_≡_, sym, ap, _∙_}
-use mathlib.Core.Bool.{true}
-use native.Mathlib.Omega.{arith}
-use Prim.Native.Nat.{ℕ, _+_, _-_}
+use mathlib.Core.Path.{sym, _∙_}
+use Prim.Native.Nat.{_-_}
 use borrow.Author.Tests.{lt-ltb, le-ltb}
 use Rattle.sparse_inner.specs.Set.{Full, full}
-use Rattle.sparse_inner.specs.Change.{dropRun, fromCut}
+use Rattle.sparse_inner.specs.Change.{fromCut}
 use Rattle.sparse_inner.proofs.Runs.{from-min}
 use borrow.Author.Needs.{needs}
 use Rattle.sparse_inner.proofs.from_cut.Statement.{statement}

@@ -1,18 +1,17 @@
 -- `sparse_inner::only_at` meets its contract: the offset is exchanged with the one in cell 0. Assumes nothing.
-use mathlib.Core.Path.{_≡_, refl, sym, ap, _∙_}
-use mathlib.Core.Bool.{true, false}
+use mathlib.Core.Path.{_≡_, sym, ap, _∙_}
+use mathlib.Core.Bool.{true}
 use mathlib.Core.List.{List}
-use Prim.Native.Nat.{ℕ, _-_, _≤_, _<_}
+use Prim.Native.Nat.{ℕ, _-_}
 use native.Mathlib.Omega.{arith}
-use lib.ListN.{length, getD}
+use lib.ListN.{getD}
 use borrow.Author.Tests.{not-true, not-false}
 use Rattle.order.specs.Order.{swapped}
-use Rattle.order.proofs.Orders.{length-swapped}
 use Rattle.sparse_inner.specs.declared.Sparse.{Sparse}
-use Rattle.sparse_inner.specs.Set.{Full, full, heldB, Held, Well}
+use Rattle.sparse_inner.specs.Set.{heldB, Held}
 use Rattle.sparse_inner.specs.Change.{onlyAt, alone}
 use Rattle.sparse_inner.proofs.Sets.{held-of}
-use Rattle.sparse_inner.proofs.Only.{some-cell, first-lt, first-at}
+use Rattle.sparse_inner.proofs.Only.{first-lt, first-at}
 use borrow.Author.Needs.{needs}
 use Rattle.sparse_inner.proofs.only_at.Statement.{statement}
 use Rattle.sparse_inner.proofs.only_at.Tie as tie

@@ -1,11 +1,10 @@
 -- `sparse_inner::under_cut` meets its contract: offsets above the largest held one need no turn. Assumes nothing.
-use mathlib.Core.Path.{_≡_, sym, ap, _∙_}
-use mathlib.Core.Bool.{true}
+use mathlib.Core.Path.{sym, _∙_}
 use native.Mathlib.Omega.{arith}
-use Prim.Native.Nat.{ℕ, _+_, _-_}
+use Prim.Native.Nat.{_-_}
 use borrow.Author.Tests.{lt-ltb, le-ltb}
 use Rattle.sparse_inner.specs.Set.{Full, full}
-use Rattle.sparse_inner.specs.Change.{dropRun, underCut}
+use Rattle.sparse_inner.specs.Change.{underCut}
 use Rattle.sparse_inner.proofs.Runs.{none-held, run-idle, to-max}
 use borrow.Author.Needs.{needs}
 use Rattle.sparse_inner.proofs.under_cut.Statement.{statement}

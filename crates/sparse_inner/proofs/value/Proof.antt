@@ -1,7 +1,5 @@
 -- `sparse_inner::value` meets its contract: it is the same in `offset`. Assumes nothing.
-use mathlib.Core.Path.{_≡_, refl, sym, ap, _∙_, subst}
-use Prim.Native.Nat.{ℕ, _≤_, _<_}
-use native.Mathlib.Omega.{arith}
+use mathlib.Core.Path.{_≡_, sym, _∙_, subst}
 use mir.Syntax.{w32}
 use mir.Val.{SFits}
 use lib.IntN.{ℤ, pos, _+ℤ_}

@@ -1,18 +1,16 @@
 -- `sparse_make::new_from_values` meets its contract: the universe goes from the smallest value to the largest, and the absent ones are sifted out. Assumes nothing.
-use mathlib.Core.Path.{_≡_, refl, sym, ap, _∙_, subst}
-use Prim.Native.Nat.{ℕ}
+use mathlib.Core.Path.{_≡_, sym, ap, _∙_, subst}
 use native.Mathlib.Omega.{arith}
-use lib.IntN.{ℤ, pos}
+use lib.IntN.{ℤ}
 use mir.Syntax.{w32}
 use mir.Val.{SFits}
 use mir.Facts.{toZ-ofZ}
 use Rattle.ends.specs.Ends.{smallestOf, largestOf}
 use Rattle.offset.specs.Places.{spanOf}
 use Rattle.offset.specs.Wide.{read-span}
-use Rattle.order.specs.Order.{counted}
 use Rattle.sparse_inner.specs.declared.Verdict.{Verdict}
 use Rattle.sparse_inner.specs.declared.Verdict.the-variants.{Fine}
-use Rattle.sparse_inner.specs.Set.{Full, full, WellF}
+use Rattle.sparse_inner.specs.Set.{full, WellF}
 use Rattle.sparse_make.specs.declared.Made.the-variants.{Set}
 use Rattle.sparse_make.specs.Calls.{making, whole, filled, roomFor, siftedOf, unless}
 use Rattle.sparse_make.proofs.Makes.{Room, room-of, span-far, filled-well, from-none, from-some}

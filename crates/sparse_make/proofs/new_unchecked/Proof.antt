@@ -1,9 +1,7 @@
 -- `sparse_make::new_unchecked` meets its contract: reversed ends span no value. Assumes nothing.
-use mathlib.Core.Path.{_≡_, sym, ap, _∙_}
-use lib.IntN.{ℤ}
-use lib.Signed.{ltZ}
+use mathlib.Core.Path.{_∙_}
 use mir.Syntax.{w32}
-use mir.Val.{SFits, toZ, ofZ}
+use mir.Val.{SFits}
 use mir.Facts.{toZ-ofZ}
 use Rattle.sparse_make.specs.Calls.{betweenOf, newUncheckedOf}
 use borrow.Author.Needs.{needs}

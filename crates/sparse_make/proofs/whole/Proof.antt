@@ -1,5 +1,5 @@
 -- `sparse_make::whole` meets its contract: a universe of none has no largest offset. Assumes nothing.
-use mathlib.Core.Path.{_≡_, sym, ap, _∙_}
+use mathlib.Core.Path.{sym, ap, _∙_}
 use lib.IntN.{ℤ}
 use mir.Facts.{toZ-ofZ}
 use Rattle.sparse_make.specs.Calls.{whole}

@@ -1,6 +1,5 @@
 -- `sparse_make::with_bit` meets its contract: 1 shifted by less than 64 places stays within the word. Assumes nothing.
 use mathlib.Core.Path.{ap}
-use Prim.Native.Nat.{ℕ}
 use lib.Bits.{bitOr}
 use Rattle.mask.specs.Words.{shl-one}
 use borrow.Author.Needs.{needs}

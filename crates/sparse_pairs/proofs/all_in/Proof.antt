@@ -1,20 +1,15 @@
 -- `sparse_pairs::all_in` meets its contract: all is held where the first value is, and all the others. Assumes nothing.
-use mathlib.Core.Path.{_≡_, refl, sym, ap, _∙_, subst}
+use mathlib.Core.Path.{_≡_, refl, sym, ap, _∙_}
 use native.Mathlib.Omega.{arith}
-use mathlib.Core.List.{List, [], _∷_}
-use mathlib.Core.Bool.{Bool, true, false, not, cond}
-use Prim.Native.Nat.{ℕ, _+_, _-_, _≤_, _<_}
-use lib.IntN.{ℤ, pos}
-use lib.ListN.{length, getD, take, drop}
+use mathlib.Core.List.{_∷_}
+use Prim.Native.Nat.{_+_, _-_}
+use lib.ListN.{getD, drop}
 use mir.Syntax.{w32}
-use mir.Val.{SFits, toZ, ofZ}
-use mir.Facts.{toZ-ofZ}
+use mir.Val.{SFits}
 use borrow.Author.Tests.{not-true, not-false}
 use borrow.Author.Needs.{needs}
-use Rattle.rules.specs.Sets.{Chutes, every}
-use Rattle.sparse_inner.specs.declared.Sparse.{Sparse}
-use Rattle.sparse_inner.specs.Set.{Full, full, WellF, valueAt, placeIn, setOf, isHeld}
-use Rattle.sparse_inner.specs.Change.{dropAt, addAt}
+use Rattle.rules.specs.Sets.{every}
+use Rattle.sparse_inner.specs.Set.{Full, full, valueAt, setOf, isHeld}
 use Rattle.sparse_inner.proofs.Values.{from-cell, past-cells, well-room, cell-fits}
 use Rattle.sparse_pairs.proofs.Each.{every-yes, every-no}
 use Rattle.sparse_pairs.proofs.all_in.Statement.{statement}

@@ -1,20 +1,16 @@
 -- `sparse_pairs::drop_each` meets its contract: what is left to drop completes the same set. Assumes nothing.
 use mathlib.Core.Path.{_≡_, refl, sym, ap, _∙_, subst}
 use native.Mathlib.Omega.{arith}
-use mathlib.Core.List.{List, [], _∷_}
-use mathlib.Core.Bool.{Bool, true, false, not, cond}
-use Prim.Native.Nat.{ℕ, _+_, _-_, _≤_, _<_}
-use lib.IntN.{ℤ, pos}
+use Prim.Native.Nat.{ℕ, _+_, _-_}
+use lib.IntN.{pos}
 use lib.ListN.{length, getD, take, drop}
 use mir.Syntax.{w32}
-use mir.Val.{SFits, toZ, ofZ}
+use mir.Val.{SFits}
 use mir.Facts.{toZ-ofZ}
-use borrow.Author.Tests.{not-true, not-false}
 use borrow.Author.Needs.{needs}
-use Rattle.rules.specs.Sets.{Chutes, every}
-use Rattle.sparse_inner.specs.declared.Sparse.{Sparse}
-use Rattle.sparse_inner.specs.Set.{Full, full, WellF, valueAt, placeIn, setOf, isHeld}
-use Rattle.sparse_inner.specs.Change.{dropAt, addAt}
+use Rattle.rules.specs.Sets.{Chutes}
+use Rattle.sparse_inner.specs.Set.{Full, full, WellF, placeIn}
+use Rattle.sparse_inner.specs.Change.{dropAt}
 use Rattle.sparse_inner.proofs.Drops.{drop-at-well}
 use Rattle.sparse_pairs.specs.Calls.{dropEach}
 use Rattle.sparse_pairs.proofs.Each.{drop-step, drop-end, from-value, past-values}

@@ -1,20 +1,17 @@
 -- `sparse_pairs::gather` meets its contract: the wanted values of the cells before k stand in the first m cells. Assumes nothing.
-use mathlib.Core.Path.{_≡_, refl, sym, ap, _∙_, subst}
+use mathlib.Core.Path.{_≡_, refl, sym, ap, _∙_}
 use native.Mathlib.Omega.{arith}
-use mathlib.Core.List.{List, [], _∷_}
-use mathlib.Core.Bool.{Bool, true, false, not, cond}
+use mathlib.Core.List.{[], _∷_}
+use mathlib.Core.Bool.{Bool, not, cond}
 use Prim.Native.Nat.{ℕ, _+_, _-_, _≤_, _<_}
-use lib.IntN.{ℤ, pos}
-use lib.ListN.{length, getD, take, drop}
+use lib.IntN.{ℤ}
+use lib.ListN.{length, getD, take}
 use mir.Syntax.{w32}
 use mir.Val.{SFits, toZ, ofZ}
 use mir.Facts.{toZ-ofZ}
-use borrow.Author.Tests.{not-true, not-false}
 use borrow.Author.Needs.{needs}
-use Rattle.rules.specs.Sets.{Chutes, every}
-use Rattle.sparse_inner.specs.declared.Sparse.{Sparse}
-use Rattle.sparse_inner.specs.Set.{Full, full, WellF, valueAt, placeIn, setOf, isHeld}
-use Rattle.sparse_inner.specs.Change.{dropAt, addAt}
+use Rattle.rules.specs.Sets.{Chutes}
+use Rattle.sparse_inner.specs.Set.{Full, full, valueAt, setOf, isHeld}
 use mathlib.Core.Bool.{Bool·beq}
 use mathlib.Core.List.{_++_}
 use mathlib.Core.Logic.{⊎-elim}

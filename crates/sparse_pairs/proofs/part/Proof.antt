@@ -4,8 +4,7 @@ use Rattle.sparse_inner.specs.declared.Verdict.the-variants.{Fine}
 use Rattle.sparse_inner.specs.Set.{Full, full, bothOf, WellF}
 use Rattle.sparse_inner.proofs.Checks.{both-of}
 use native.Mathlib.Omega.{arith}
-use mathlib.Core.Bool.{Bool}
-use Prim.Native.Nat.{ℕ, _≤_}
+use Prim.Native.Nat.{_≤_}
 use lib.ListN.{length, take}
 use borrow.Author.Tests.{lt-ltb, le-ltb}
 use Rattle.rules.specs.Sets.{Chutes}

@@ -1,5 +1,5 @@
 -- `sparse_pairs::union_with` meets its contract: the work is done on two accepted sets, and all comes back as it came otherwise. Assumes nothing.
-use mathlib.Core.Path.{_≡_, sym, ap, _∙_}
+use mathlib.Core.Path.{_≡_, sym, _∙_}
 use Rattle.sparse_inner.specs.declared.Verdict.the-variants.{Fine}
 use Rattle.sparse_inner.specs.Set.{Full, full, bothOf, WellF}
 use Rattle.sparse_inner.proofs.Checks.{both-of}

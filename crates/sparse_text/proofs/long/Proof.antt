@@ -1,8 +1,7 @@
 -- `sparse_text::long` meets its contract: an i32 fits an i64. Assumes nothing.
-use mathlib.Core.Path.{_≡_, sym, _∙_, subst}
-use lib.IntN.{ℤ}
-use mir.Syntax.{w32, w64}
-use mir.Val.{SFits, toZ, ofZ}
+use mathlib.Core.Path.{_∙_}
+use mir.Syntax.{w32}
+use mir.Val.{SFits}
 use Rattle.offset.specs.Wide.{wide-fits, wide-is}
 use borrow.Author.Needs.{needs}
 use Rattle.sparse_text.proofs.long.Statement.{statement}

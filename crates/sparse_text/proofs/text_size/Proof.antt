@@ -1,20 +1,18 @@
 -- `sparse_text::text_size` meets its contract: the bytes before cell k are counted. Assumes nothing.
-use mathlib.Core.Path.{_≡_, refl, sym, ap, _∙_, subst}
-use mathlib.Core.List.{List, [], _∷_}
+use mathlib.Core.Path.{_≡_, refl, ap, _∙_}
 use Prim.Native.Nat.{ℕ, _+_, _*_, _-_, _≤_, _<_}
 use native.Mathlib.Omega.{arith}
 use lib.IntN.{ℤ}
-use lib.ListN.{length, getD, set, length-set}
+use lib.ListN.{length, getD, set}
 use mir.Syntax.{w32, w64}
 use mir.Val.{SFits, toZ, ofZ}
 use mir.Facts.{toZ-ofZ}
 use borrow.Author.Needs.{needs}
 use Rattle.decimal.specs.Decimal.{decimal}
-use Rattle.decimal.specs.Put.{Put, putOf}
 use Rattle.sparse_inner.specs.Set.{Full, full, valueAt}
 use Rattle.sparse.specs.Calls.{inCell}
 use Rattle.sparse_inner.proofs.Checks.{value-fits}
-use Rattle.sparse_text.specs.Text.{before, listed, closing, textOf}
+use Rattle.sparse_text.specs.Text.{before, listed}
 use Rattle.sparse_text.proofs.Texts.{listed-size, before-few, value-few, text-size, closing-all, closing-rest}
 use Rattle.sparse_text.proofs.text_size.Statement.{statement}
 use Rattle.sparse_text.proofs.text_size.Tie as tie

@@ -1,14 +1,11 @@
 -- `sparse_values::to_vec` meets its contract: the values are written where they have room. Assumes nothing.
-use mathlib.Core.Path.{_≡_, refl, sym, ap, _∙_}
-use Prim.Native.Nat.{ℕ, _+_, _-_, _≤_, _<_}
-use native.Mathlib.Omega.{arith}
-use lib.ListN.{length, getD}
-use mir.Syntax.{w32}
-use mir.Val.{SFits, toZ, ofZ}
+use mathlib.Core.Path.{_≡_, sym, _∙_}
+use Prim.Native.Nat.{_-_}
+use lib.ListN.{length}
 use borrow.Author.Tests.{lt-ltb, le-ltb}
 use Rattle.sparse_inner.specs.declared.Verdict.the-variants.{Fine}
-use Rattle.sparse_inner.specs.Set.{Full, full, verdictOf, WellF, valueAt, setOf, over}
-use Rattle.sparse_inner.proofs.Checks.{well-of, value-fits}
+use Rattle.sparse_inner.specs.Set.{Full, full, verdictOf, WellF}
+use Rattle.sparse_inner.proofs.Checks.{well-of}
 use Rattle.sparse.specs.declared.Counted.the-variants.{Count}
 use Rattle.sparse_values.specs.Calls.{written, toVecOf}
 use borrow.Author.Needs.{needs}

@@ -1,17 +1,12 @@
 -- `sparse_values::write` meets its contract: the first k values stand in the first k cells. Assumes nothing.
 use mathlib.Core.Path.{_≡_, refl, sym, ap, _∙_}
-use Prim.Native.Nat.{ℕ, _+_, _-_, _≤_, _<_}
+use Prim.Native.Nat.{ℕ, _-_, _≤_}
 use native.Mathlib.Omega.{arith}
 use lib.ListN.{length, getD}
 use mir.Syntax.{w32}
 use mir.Val.{SFits, toZ, ofZ}
-use borrow.Author.Tests.{lt-ltb, le-ltb}
 use borrow.Author.Needs.{needs}
-use Rattle.sparse_inner.specs.declared.Verdict.the-variants.{Fine}
-use Rattle.sparse_inner.specs.Set.{Full, full, verdictOf, WellF, valueAt, setOf, over}
-use Rattle.sparse_inner.proofs.Checks.{well-of, value-fits}
-use mathlib.Core.List.{[], _∷_, _++_}
-use lib.IntN.{ℤ, pos}
+use Rattle.sparse_inner.specs.Set.{Full, full, valueAt, setOf, over}
 use lib.ListN.{take, set}
 use lib.Seq.{length-take-le}
 use mir.Facts.{toZ-ofZ}

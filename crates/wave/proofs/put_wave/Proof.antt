@@ -8,7 +8,7 @@ use denote.Ref.{now}
 use lib.ListN.{length}
 use Rattle.decimal.specs.Put.{putOf}
 use Rattle.rules.specs.Refusals.{numberOf, placeOf}
-use Rattle.sheet_form.specs.Sheet.{Sheet, Few}
+use Rattle.sheet_form.specs.Sheet.{Sheet}
 use Rattle.sheet_form.specs.declared.Parsed.{Parsed}
 use Rattle.sheet_number.specs.Number.{got, fault}
 use Rattle.sheet_number.specs.declared.Fault.{Fault}

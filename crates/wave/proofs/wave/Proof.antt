@@ -7,7 +7,6 @@ use borrow.Author.Needs.{needs}
 use denote.Ref.{now}
 use lib.ListN.{length, take, drop}
 use lib.Seq.{length-take-le, take-length}
-use Rattle.wave_print.specs.Print.{most}
 use Rattle.wave_print.proofs.Pieces.{kept}
 use Rattle.wave.specs.Text.{waveText, waveOf}
 use Rattle.wave.proofs.Writing.{put-size, put-front, no-room, room}

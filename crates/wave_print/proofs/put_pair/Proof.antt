@@ -1,13 +1,13 @@
 -- `wave_print::put_pair` meets its contract: four bytes, of which two are the bits.
-use mathlib.Core.Path.{_≡_, ap₂, _∙_}
+use mathlib.Core.Path.{ap₂, _∙_}
 use native.Mathlib.Omega.{arith}
-use Prim.Native.Nat.{ℕ, _+_}
+use Prim.Native.Nat.{ℕ}
 use borrow.Author.Needs.{needs}
 use denote.Ref.{now}
 use mathlib.Core.List.{[], _∷_}
-use lib.ListN.{length, set, length-set}
+use lib.ListN.{length-set}
 use Rattle.decimal.specs.Put.{putOf}
-use Rattle.wave_print.specs.Print.{pairText, bitText}
+use Rattle.wave_print.specs.Print.{pairText}
 use Rattle.wave_print.proofs.Pieces.{four}
 use Rattle.wave_print.proofs.put_pair.Statement.{statement}
 use Rattle.wave_print.proofs.put_pair.Tie as tie

@@ -7,7 +7,7 @@ use native.Mathlib.Omega.{arith}
 use lib.ListN.{length, getD, take}
 use Rattle.closing.specs.declared.Closing.{Closing}
 use Rattle.board.specs.Rows.{idAt, seatIn}
-use Rattle.board.proofs.Seats.{seated, seat-least, seat-agree, differ-agree}
+use Rattle.board.proofs.Seats.{seated, seat-agree, differ-agree}
 use Rattle.board.proofs.ViewLaws.{mapped}
 use Rattle.batch.specs.Tallies.{untold, tallied, tallyOf}
 use Rattle.batch.specs.declared.Tally.{Tally}

@@ -1,5 +1,4 @@
 -- `sparse::ask::found` meets its contract: it is the value at the offset, unless there is none. Assumes nothing.
-use mathlib.Core.Path.{_≡_, ap}
 use Rattle.sparse.specs.declared.Found.the-variants.{At}
 use Rattle.sparse.proofs.ask.found.Statement.{statement}
 use Rattle.sparse.proofs.ask.found.Tie as tie

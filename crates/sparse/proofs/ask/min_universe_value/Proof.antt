@@ -1,5 +1,5 @@
 -- `sparse::ask::min_universe_value` meets its contract: it is asked of an accepted set, and refused as the check says otherwise. Assumes nothing.
-use mathlib.Core.Path.{_≡_, sym, ap, _∙_}
+use mathlib.Core.Path.{sym, ap, _∙_}
 use lib.IntN.{ℤ}
 use mir.Syntax.{w32}
 use mir.Val.{SFits}

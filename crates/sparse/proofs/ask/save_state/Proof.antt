@@ -1,5 +1,5 @@
 -- `sparse::ask::save_state` meets its contract: it is asked of an accepted set, and refused as the check says otherwise. Assumes nothing.
-use mathlib.Core.Path.{_≡_, sym, ap, _∙_}
+use mathlib.Core.Path.{sym, ap, _∙_}
 use Rattle.sparse.specs.declared.Kept.the-variants.{State}
 use Rattle.sparse.specs.Calls.{saveOf}
 use borrow.Author.Needs.{needs}

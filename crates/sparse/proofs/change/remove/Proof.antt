@@ -1,11 +1,11 @@
 -- `sparse::change::remove` meets its contract: the work is done on an accepted set, and all comes back as it came otherwise. Assumes nothing.
 use mathlib.Core.Path.{_≡_, sym, ap, _∙_}
 use Rattle.sparse_inner.specs.declared.Verdict.the-variants.{Fine}
-use Rattle.sparse_inner.specs.Set.{Full, full, verdictOf, WellF, heldB, isHeld, placeIn}
+use Rattle.sparse_inner.specs.Set.{Full, full, verdictOf, WellF, heldB, isHeld}
 use Rattle.sparse_inner.proofs.Checks.{well-of}
 use Rattle.sparse_inner.specs.Change.{dropAt}
 use Rattle.sparse.specs.declared.Told.the-variants.{Is}
-use Rattle.sparse.specs.Calls.{After, after, removeOf}
+use Rattle.sparse.specs.Calls.{after, removeOf}
 use borrow.Author.Needs.{needs}
 use Rattle.sparse.proofs.change.remove.Statement.{statement}
 use Rattle.sparse.proofs.change.remove.Tie as tie

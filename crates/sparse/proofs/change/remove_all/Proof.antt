@@ -1,5 +1,5 @@
 -- `sparse::change::remove_all` meets its contract: the work is done on an accepted set, and all comes back as it came otherwise. Assumes nothing.
-use mathlib.Core.Path.{_≡_, sym, ap, _∙_}
+use mathlib.Core.Path.{sym, _∙_}
 use Rattle.sparse.specs.Calls.{removeAllOf}
 use borrow.Author.Needs.{needs}
 use Rattle.sparse.proofs.change.remove_all.Statement.{statement}

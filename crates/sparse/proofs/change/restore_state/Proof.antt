@@ -1,10 +1,9 @@
 -- `sparse::change::restore_state` meets its contract: a state is taken where it fits the orderings. Assumes nothing.
-use mathlib.Core.Path.{_≡_, sym, ap, _∙_}
+use mathlib.Core.Path.{_≡_, sym, _∙_}
 use Rattle.sparse_inner.specs.declared.Verdict.the-variants.{Fine}
 use Rattle.sparse_inner.specs.Set.{Full, full, verdictOf, WellF}
 use Rattle.sparse_inner.proofs.Checks.{well-of}
 use borrow.Author.Tests.{not-true, not-false}
-use Rattle.sparse_inner.specs.Set.{fitsB}
 use Rattle.sparse.specs.Calls.{restoreOf}
 use borrow.Author.Needs.{needs}
 use Rattle.sparse.proofs.change.restore_state.Statement.{statement}
