@@ -1,5 +1,7 @@
 pub mod Chains
 pub mod StepOne
+pub mod Together
+pub mod Fixings
 pub mod Gathers
 pub mod Table
 pub mod Tight

@@ -22,6 +22,8 @@ use mask::Mask;
 use masks::Masks;
 use sweep::Outcome;
 
+mod first;
+
 // What the pass answers, and whether it sets the board's `domains_changed`.
 pub struct Passed {
     pub changed: bool,
@@ -113,33 +115,33 @@ fn size(t: usize) -> usize
     4
 }
 
-// Step 1: the value of each place that is assigned at entry is taken out of the others.
+// Step 1: the value of each place that is assigned at entry is taken out of the others. Where all universes start at one value
+// and the values differ, all are taken out at once; if that empties a domain, the masks are put back, and they are taken out
+// one by one up to the first that does.
 fn step_one(mins: &[i32; 64], ms: &mut Masks, n: usize) -> Outcome
     requires { ⌜ (n ≤ 64) × Room (now ms) × Within32 (now mins) (now ms) n ⌝ }
     ensures { λ r. ⌜ Left n (now (ms .entry)) (now (ms .exit)) × (swept r (listed (now (mins .entry)) (now (ms .exit)) n) ≡ step1 (listed (now (mins .entry)) (now (ms .entry)) n)) ⌝ }
 {
+    let found = first::fixed(ms, n);
+    if !found.apart {
+        return first::one_by_one(mins, ms, n);
+    }
+    if mask::is_none(found.values) {
+        return Outcome {
+            changed: false,
+            consistent: true,
+        };
+    }
+    if !first::is_level(mins, n) {
+        return first::one_by_one(mins, ms, n);
+    }
     let entry = *ms;
-    let mut changed = false;
-    let mut p = 0;
-    while p < n {
-        let m = masks::at(&entry, p);
-        if mask::is_one(m) {
-            let v = offset::value(mins[p], mask::lowest(m));
-            let did = sweep::strike_others(mins, ms, n, p, v);
-            changed = changed | did.changed;
-            if !did.consistent {
-                return Outcome {
-                    changed,
-                    consistent: false,
-                };
-            }
-        }
-        p += 1;
+    let did = sweep::strike_unassigned(ms, n, found.values);
+    if did.consistent {
+        return did;
     }
-    Outcome {
-        changed,
-        consistent: true,
-    }
+    *ms = entry;
+    first::one_by_one(mins, ms, n)
 }
 
 // Whether x is one of the first r values.

@@ -64,7 +64,7 @@ pub fn prune(rows: [Row; 64], count: usize, list: &[u32]) -> Pruned
     }
     let n = list.len();
     let mut mins = [0i32; 64];
-    let mut ms = [0u64; 128];
+    let mut ms = masks::none();
     gather(rows, &at, n, &mut mins, &mut ms);
     let did = alldiff::spread(&mins, &mut ms, n);
     Pruned {

@@ -1,10 +1,17 @@
 // 64 masks as one array of words, so that all of them can be lent at once. Only this crate and `mask` know the words.
 ghost use mathlib.Core.Path.{_≡_};
 ghost use Prim.Native.Nat.{_<_};
-ghost use Rattle.masks.specs.Cells.{maskAt, putAt};
+ghost use Rattle.masks.specs.Cells.{Room, maskAt, putAt};
 use mask::Mask;
 
 pub type Masks = [u64; 128];
+
+// No mask is put yet.
+pub fn none() -> Masks
+    ensures { λ r. ⌜ Room r ⌝ }
+{
+    [0u64; 128]
+}
 
 // The mask at place i.
 pub fn at(ms: &Masks, i: usize) -> Mask

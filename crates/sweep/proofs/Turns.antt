@@ -6,6 +6,7 @@ use Prim.Native.Nat.{ℕ, zero, suc, _/_, _^_, _≤_, _<_}
 use native.Mathlib.Nat.{div-one, div-div-eq-div-mul, pow-suc, le-of-suc-le-suc, not-suc-le-zero}
 use native.Mathlib.Decide.{ℕ-discrete}
 use native.Mathlib.Omega.{arith}
+use lib.Count.{ones}
 use lib.ListN.{length, getD, set, take, drop, length-set, drop-of-length-le}
 use lib.Seq.{getD-set-same, getD-set-other, ext-getD, take-all}
 use lib.Dec.{T, eqb}
@@ -24,7 +25,7 @@ use Rattle.rules.proofs.Loops.{none, only, ahead, sweep-inside, sweep-outside, 
 use Rattle.domain.specs.Set.{valuesOf}
 use Rattle.domain.proofs.Laws.{in-values, values-in}
 use Rattle.masks.specs.Cells.{Room, maskAt}
-use Rattle.sweep.specs.Listed.{tabulate, domainAt, listed, Left, Struck}
+use Rattle.sweep.specs.Listed.{tabulate, domainAt, listed, assigned, Left, Struck}
 use Rattle.sweep.specs.declared.Outcome.{Outcome}
 use Rattle.sweep.proofs.Values.{full}
 
@@ -46,6 +47,15 @@ listed-length mins ws n = length-tabulate (domainAt mins ws) n
 pub listed-at : (mins : List ℤ) (ws : List ℕ) (n p : ℕ) → p < n → getD (listed mins ws n) p [] ≡ domainAt mins ws p
 unfolding listed
 listed-at mins ws n p h = at-tabulate (domainAt mins ws) n p [] h
+
+-- the places that are assigned
+pub assigned-length : (ws : List ℕ) (n : ℕ) → length (assigned ws n) ≡ n
+unfolding assigned
+assigned-length ws n = length-tabulate (λ p. eqb (ones (val (maskAt ws p))) 1) n
+
+pub assigned-at : (ws : List ℕ) (n p : ℕ) → p < n → getD (assigned ws n) p false ≡ eqb (ones (val (maskAt ws p))) 1
+unfolding assigned
+assigned-at ws n p h = at-tabulate (λ q. eqb (ones (val (maskAt ws q))) 1) n p false h
 
 -- the list of some domains, where each is what the mask at its place stands for
 pub listed-is : (mins : List ℤ) (ws : List ℕ) (n : ℕ) (ds : List Chutes) → length ds ≡ n → ((p : ℕ) → p < n → domainAt mins ws p ≡ getD ds p []) → listed mins ws n ≡ ds

@@ -11,7 +11,7 @@ use lib.IntN.{ℤ, pos, _+ℤ_, _-ℤ_}
 use borrow.Author.Tests.{ltb-false}
 use Rattle.mask.specs.Bit.{bitMinus}
 use Rattle.mask.specs.Val.{val, offsets, Fit, val-lt}
-use Rattle.mask.specs.Sets.{In, in-without, in-lt, same-set}
+use Rattle.mask.specs.Sets.{In, in-minus, in-without, in-lt, same-set}
 use Rattle.mask.specs.declared.Mask.{Mask}
 use Rattle.offset.specs.Places.{placeOf}
 use Rattle.offset.specs.Universe.{place-value, value-place}
@@ -111,6 +111,21 @@ strike-more v u s = keep-keep (λ x. not (has x (v ∷ []))) (λ x. not (has x u
 
 pub strike-nothing : (s : Chutes) → strike [] s ≡ s
 strike-nothing s = keep-all (λ x. not (has x [])) s (λ x h. tt)
+
+-- ---- the values of a mask
+
+pub strike-minus : (lo : ℤ) (m u e : Mask) → val e ≡ bitMinus (val m) (val u) → valuesOf lo e ≡ strike (valuesOf lo u) (valuesOf lo m)
+strike-minus lo m u e q = values-strike lo m e (valuesOf lo u) there back
+  where
+    there : (k : ℕ) → In (val e) k → In (val m) k × T (not (has (lo +ℤ pos k) (valuesOf lo u)))
+    there k h =
+        let w = in-minus (val m) (val u) k .0 (subst (λ (n : ℕ). In n k) q h) in
+        (w .0, not-T (has (lo +ℤ pos k) (valuesOf lo u)) (λ t. w .1 (values-in lo u k t)))
+
+    back : (k : ℕ) → In (val m) k → T (not (has (lo +ℤ pos k) (valuesOf lo u))) → In (val e) k
+    back k h t =
+        subst (λ (n : ℕ). In n k) (sym q)
+        (in-minus (val m) (val u) k .1 (h, λ i. T-not (has (lo +ℤ pos k) (valuesOf lo u)) t (in-values lo u k i)))
 
 -- ---- whether anything is lost
 

@@ -3,6 +3,8 @@ use mathlib.Core.Path.{_≡_}
 use mathlib.Core.Bool.{not, _&&_}
 use mathlib.Core.List.{List, [], _∷_}
 use Prim.Native.Nat.{ℕ, zero, suc, _<_}
+use lib.Count.{ones}
+use lib.Dec.{eqb}
 use lib.ListN.{getD}
 use lib.IntN.{ℤ, pos, _+ℤ_}
 use mir.Syntax.{w32}
@@ -10,7 +12,7 @@ use mir.Val.{SFits}
 use Rattle.mask.specs.Val.{val}
 use Rattle.mask.specs.Sets.{In}
 use Rattle.rules.specs.Sets.{Chutes, some, strike}
-use Rattle.rules.specs.Pass.{Swept, lost}
+use Rattle.rules.specs.Pass.{Places, Swept, lost}
 use Rattle.domain.specs.Set.{valuesOf}
 use Rattle.masks.specs.Cells.{Room, maskAt, Same}
 use Rattle.sweep.specs.declared.Outcome.{Outcome}
@@ -27,6 +29,14 @@ domainAt mins ws p = valuesOf (getD mins p (pos 0)) (maskAt ws p)
 -- the first n domains, in list order
 unfoldable pub listed : List ℤ → List ℕ → ℕ → List Chutes
 listed mins ws n = tabulate (domainAt mins ws) n
+
+-- the universes of the first n places start at lo
+abbrev pub Level : ℤ → List ℤ → ℕ → Type 0
+Level lo mins n = (p : ℕ) → p < n → getD mins p (pos 0) ≡ lo
+
+-- which of the first n places are assigned
+unfoldable pub assigned : List ℕ → ℕ → Places
+assigned ws n = tabulate (λ p. eqb (ones (val (maskAt ws p))) 1) n
 
 -- what was swept: the domains, and what is told of it
 abbrev pub swept : Outcome → List Chutes → Swept

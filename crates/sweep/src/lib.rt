@@ -3,8 +3,9 @@
 // A listed domain is the mask at its place, over a universe that starts at the place's smallest value. The universes may
 // differ in any way: a value is carried from one to another as an i32.
 ghost use mathlib.Core.Path.{_≡_};
-ghost use mathlib.Core.List.{[], _∷_};
+ghost use mathlib.Core.List.{List, [], _∷_};
 ghost use Prim.Native.Nat.{_<_, _≤_};
+ghost use lib.IntN.{ℤ};
 ghost use lib.ListN.{length, take};
 ghost use Rattle.rules.specs.Sets.{strike};
 ghost use Rattle.rules.specs.Pass.{sweep};
@@ -12,7 +13,7 @@ ghost use Rattle.rules.specs.Table.{bits};
 ghost use Rattle.rules.proofs.Loops.{only};
 ghost use Rattle.domain.specs.Set.{valuesOf};
 ghost use Rattle.masks.specs.Cells.{Room};
-ghost use Rattle.sweep.specs.Listed.{listed, swept, Struck, Left};
+ghost use Rattle.sweep.specs.Listed.{listed, swept, Struck, Left, assigned, Level};
 use mask::Mask;
 use masks::Masks;
 
@@ -94,6 +95,26 @@ fn strike_some(ms: &mut Masks, q: usize, min: i32, vals: &[i32; 4], r: usize) ->
     }
 }
 
+// The members of u are taken out of the mask at place q, whatever its universe starts at.
+fn strike_mask(ms: &mut Masks, q: usize, u: Mask) -> Outcome
+    requires { ⌜ (q < 64) × Room (now ms) ⌝ }
+    ensures { λ r. ⌜ ((lo : ℤ) → Struck (valuesOf lo u) lo q (now (ms .entry)) (now (ms .exit)) r) ⌝ }
+{
+    let m = masks::at(ms, q);
+    let left = mask::minus(m, u);
+    if mask::same(left, m) {
+        return Outcome {
+            changed: false,
+            consistent: true,
+        };
+    }
+    masks::put(ms, q, left);
+    Outcome {
+        changed: true,
+        consistent: !mask::is_none(left),
+    }
+}
+
 // v is taken out of every listed domain but that at place p.
 pub fn strike_others(mins: &[i32; 64], ms: &mut Masks, n: usize, p: usize, v: i32) -> Outcome
     requires { ⌜ (n ≤ 64) × Room (now ms) ⌝ }
@@ -147,6 +168,32 @@ pub fn strike_outside(
             changed = changed | did.changed;
         }
         inside = inside / 2;
+        q += 1;
+    }
+    Outcome {
+        changed,
+        consistent: true,
+    }
+}
+
+// The members of u are taken out of every listed domain that isn't assigned, where all universes start at one value.
+pub fn strike_unassigned(ms: &mut Masks, n: usize, u: Mask) -> Outcome
+    requires { ⌜ (n ≤ 64) × Room (now ms) ⌝ }
+    ensures { λ r. ⌜ Left n (now (ms .entry)) (now (ms .exit)) × ((mins : List ℤ) (lo : ℤ) → Level lo mins n → swept r (listed mins (now (ms .exit)) n) ≡ sweep (assigned (now (ms .entry)) n) (valuesOf lo u) (listed mins (now (ms .entry)) n)) ⌝ }
+{
+    let mut changed = false;
+    let mut q = 0;
+    while q < n {
+        if !mask::is_one(masks::at(ms, q)) {
+            let did = strike_mask(ms, q, u);
+            if !did.consistent {
+                return Outcome {
+                    changed: true,
+                    consistent: false,
+                };
+            }
+            changed = changed | did.changed;
+        }
         q += 1;
     }
     Outcome {

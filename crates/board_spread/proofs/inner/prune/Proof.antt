@@ -1,7 +1,6 @@
 -- `board_spread::inner::prune` meets its contract: the pass is given what the listed rows hold, and its masks go back to them. Assumes nothing.
 use mathlib.Core.Path.{_≡_, refl}
 use lib.ListN.{length}
-use Rattle.masks.proofs.Laws.{room-of}
 use Rattle.board.proofs.ViewLaws.{sound}
 use Rattle.board_spread.proofs.Gathers.{within-all}
 use Rattle.board_spread.proofs.Spreading.{bare, list-refused, list-few, cell-below, cell-well, list-taken}
@@ -27,9 +26,13 @@ returns c =
 enum-told : tie.Need-enum-told
 enum-told c = search needs
 
+none-requires : tie.Need-none-requires
+none-requires c κs = search needs
+
 gather-requires : tie.Need-gather-requires
 gather-requires c κs =
-    let t = c .before .before .before in
+    let n = c .before .before .before in
+    let t = n .before in
     let s = t .before .before in
     let a = s .before .before .before in
     let b = bare (a .args .rows) (a .args .count) in
@@ -37,13 +40,13 @@ gather-requires c κs =
       list-few b (a .pre) (a .args .list .now) _ (s .seats .last .1 .1 .1 .0) refl (s .seats .result) (s .seats .ensures) o,
       cell-below b (a .pre) (a .args .list .now) _ (s .seats .last .1 .1 .1 .0) refl (s .seats .result) (s .seats .ensures) o,
       refl,
-      room-of _ refl,
+      n .none .ensures,
     )
 
 spread-requires : tie.Need-spread-requires
 spread-requires c κs =
     let g = c .before .before in
-    let t = g .before .before .before .before in
+    let t = g .before .before .before .before .before in
     let s = t .before .before in
     let a = s .before .before .before in
     let b = bare (a .args .rows) (a .args .count) in
@@ -56,7 +59,7 @@ spread-requires c κs =
 
 scatter-requires : tie.Need-scatter-requires
 scatter-requires c κs =
-    let t = c .before .before .before .before .before .before .before .before .before in
+    let t = c .before .before .before .before .before .before .before .before .before .before in
     let s = t .before .before in
     let a = s .before .before .before in
     let b = bare (a .args .rows) (a .args .count) in
@@ -72,7 +75,7 @@ returns-2 : tie.Need-returns-2
 returns-2 c =
     let p = c .before .before .before in
     let g = p .before .before .before in
-    let t = g .before .before .before .before in
+    let t = g .before .before .before .before .before in
     let s = t .before .before in
     let a = s .before .before .before in
     let b = bare (a .args .rows) (a .args .count) in
@@ -89,6 +92,7 @@ prune-spec =
     enum-known-found
     returns
     enum-told
+    none-requires
     gather-requires
     spread-requires
     scatter-requires
