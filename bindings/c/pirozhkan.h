@@ -1,12 +1,15 @@
-/* The chute assignment core of a tilt-tray sorter: a board of up to 64 destinations, each with the chutes that it may still use.
+/* The chute assignment core of a tilt-tray sorter: a board of up to 64 destinations, each with the chutes that it may still use; and the
+ * bit domains and sparse sets by themselves.
  *
  * The caller lends the board's state: PIROZHKAN_WORDS words that it may keep, copy and store as it likes. Every function looks at
  * the whole state first. Words that aren't a well-formed board's are refused (PIROZHKAN_BROKEN), fewer words than
- * PIROZHKAN_WORDS too (PIROZHKAN_NO_ROOM), and a refused call changes nothing at all, neither the state nor a lent cell.
+ * PIROZHKAN_WORDS too (PIROZHKAN_NO_ROOM), and a refused call changes nothing at all, neither the state nor a lent cell. So it is with
+ * a bit domain in PIROZHKAN_BIT_WORDS words, and with a sparse set in PIROZHKAN_SPARSE_CELLS cells of state and two orderings.
  *
  * What is asked of the caller is this alone: a pointer is aligned, not null, and points to as many elements as the length beside
  * it says; elements that a function writes (a pointer that isn't const) are not read or written by anything else meanwhile, and are
- * no part of another argument. A length counts elements. Words of the state past PIROZHKAN_WORDS, and cells past those that an answer needs, are never written.
+ * no part of another argument. A length counts elements. Elements past those of a state, and cells past those that an answer needs, are
+ * never written.
  *
  * Each function returns one number, its code. pirozhkan_told, pirozhkan_pair, pirozhkan_counted and pirozhkan_found take it
  * apart: `refused` is 0, or the number of the refusal, and `place` the place in the list that it names, from 0.
@@ -26,7 +29,7 @@ extern "C" {
 #define PIROZHKAN_WORDS 1283
 
 enum {
-    PIROZHKAN_BROKEN = 1,      /* the state isn't a well-formed board's */
+    PIROZHKAN_BROKEN = 1,      /* the state isn't a well-formed one */
     PIROZHKAN_FULL = 2,        /* a new destination, and 64 are registered */
     PIROZHKAN_TRIAL_OPEN = 3,  /* registration while a mark is open */
     PIROZHKAN_TOO_DEEP = 4,    /* a mark, and 8 are open */
@@ -34,8 +37,10 @@ enum {
     PIROZHKAN_UNKNOWN = 6,     /* a listed destination isn't registered (place) */
     PIROZHKAN_REPEATED = 7,    /* a listed destination stood earlier in the list (place) */
     PIROZHKAN_TOO_LONG = 8,    /* a list of more than 64, a batch of more than 256 */
-    PIROZHKAN_SHORT = 10,      /* the runs of a batch differ in length */
+    PIROZHKAN_TOO_WIDE = 9,    /* a sparse universe of more than 4096 values */
+    PIROZHKAN_SHORT = 10,      /* the runs of a batch differ in length; an ordering has fewer cells than the universe has values */
     PIROZHKAN_EMPTY = 11,      /* bounds or a value where there is none */
+    PIROZHKAN_BAD_STATE = 12,  /* a restored state that doesn't fit the set */
     PIROZHKAN_NO_ROOM = 14,    /* too few words for a state, or too few cells for an answer */
     PIROZHKAN_BAD_SHEET = 15   /* a number in a batch is no kind (place) */
 };
@@ -109,6 +114,101 @@ uint64_t pirozhkan_reset_changed_flag(uint64_t *state, size_t words);
  * enough). */
 #define PIROZHKAN_TEXT 2816
 uint64_t pirozhkan_wave(const uint8_t *sheet, size_t bytes, uint8_t *out, size_t room);
+
+/* ---- a bit domain: values of a universe of at most 128, in PIROZHKAN_BIT_WORDS words */
+
+#define PIROZHKAN_BIT_WORDS 3
+
+/* Whatever the words were: the values from min to max in either order, all held, or none of them; the listed values, over the universe from
+ * the least to the greatest. More than 128 values in the universe give a domain of no values. */
+uint64_t pirozhkan_bit_new(uint64_t *state, size_t words, int32_t min, int32_t max);
+uint64_t pirozhkan_bit_new_empty(uint64_t *state, size_t words, int32_t min, int32_t max);
+uint64_t pirozhkan_bit_new_from_values(uint64_t *state, size_t words, const int32_t *values, size_t count);
+
+/* told: whether membership changed. A value outside the universe is not inserted. */
+uint64_t pirozhkan_bit_insert(uint64_t *state, size_t words, int32_t value);
+uint64_t pirozhkan_bit_remove(uint64_t *state, size_t words, int32_t value);
+
+/* All go; all but `value` go (all, where it isn't held); those below it go; those above it go. */
+uint64_t pirozhkan_bit_remove_all(uint64_t *state, size_t words);
+uint64_t pirozhkan_bit_remove_all_but(uint64_t *state, size_t words, int32_t value);
+uint64_t pirozhkan_bit_remove_below(uint64_t *state, size_t words, int32_t value);
+uint64_t pirozhkan_bit_remove_above(uint64_t *state, size_t words, int32_t value);
+
+/* told: whether it is held. counted: how many are held. found: the only one, the smallest, the largest. */
+uint64_t pirozhkan_bit_contains(const uint64_t *state, size_t words, int32_t value);
+uint64_t pirozhkan_bit_size(const uint64_t *state, size_t words);
+uint64_t pirozhkan_bit_fixed_value(const uint64_t *state, size_t words);
+uint64_t pirozhkan_bit_min(const uint64_t *state, size_t words);
+uint64_t pirozhkan_bit_max(const uint64_t *state, size_t words);
+
+/* counted: how many values went into the cells, ascending (128 cells are always enough); how many bytes the text has (PIROZHKAN_BIT_TEXT
+ * are always enough). The text is `[1,2,3|7,9]`: the first run of values without a gap, then the others. */
+#define PIROZHKAN_BIT_TEXT 1538
+uint64_t pirozhkan_bit_values(const uint64_t *state, size_t words, int32_t *cells, size_t count);
+uint64_t pirozhkan_bit_text(const uint64_t *state, size_t words, uint8_t *text, size_t room);
+
+/* ---- a sparse set: values of a universe of at most 4096, in PIROZHKAN_SPARSE_CELLS cells of state and two orderings that have a cell for
+ * each value of the universe (PIROZHKAN_SHORT where they have fewer). The two orderings belong to the state: the three are lent together. */
+
+#define PIROZHKAN_SPARSE_CELLS 5
+
+/* Whatever the cells were: the values from min to max in either order, all held; the listed values, over the universe from the least to the
+ * greatest. */
+uint64_t pirozhkan_sparse_new(uint32_t *state, size_t cells, uint32_t *ind, size_t ind_count, uint32_t *val, size_t val_count,
+                              int32_t min, int32_t max);
+uint64_t pirozhkan_sparse_new_from_values(uint32_t *state, size_t cells, uint32_t *ind, size_t ind_count, uint32_t *val,
+                                          size_t val_count, const int32_t *values, size_t count);
+
+/* told: whether it was held. */
+uint64_t pirozhkan_sparse_remove(uint32_t *state, size_t cells, uint32_t *ind, size_t ind_count, uint32_t *val, size_t val_count,
+                                 int32_t value);
+
+/* All go; all but `value` go (all, where it isn't held); those below it go; those above it go. */
+uint64_t pirozhkan_sparse_remove_all(uint32_t *state, size_t cells, const uint32_t *ind, size_t ind_count, const uint32_t *val,
+                                     size_t val_count);
+uint64_t pirozhkan_sparse_remove_all_but(uint32_t *state, size_t cells, uint32_t *ind, size_t ind_count, uint32_t *val, size_t val_count,
+                                         int32_t value);
+uint64_t pirozhkan_sparse_remove_below(uint32_t *state, size_t cells, uint32_t *ind, size_t ind_count, uint32_t *val, size_t val_count,
+                                       int32_t value);
+uint64_t pirozhkan_sparse_remove_above(uint32_t *state, size_t cells, uint32_t *ind, size_t ind_count, uint32_t *val, size_t val_count,
+                                       int32_t value);
+
+/* Keeps those that the second set holds; drops them; adds those of its values that are in the universe. The values that go are written into
+ * the scratch, which has as many cells as the first set holds values. */
+uint64_t pirozhkan_sparse_intersect_with(uint32_t *state, size_t cells, uint32_t *ind, size_t ind_count, uint32_t *val, size_t val_count,
+                                         const uint32_t *other, size_t other_cells, const uint32_t *other_ind, size_t other_ind_count,
+                                         const uint32_t *other_val, size_t other_val_count, int32_t *scratch, size_t scratch_count);
+uint64_t pirozhkan_sparse_diff_with(uint32_t *state, size_t cells, uint32_t *ind, size_t ind_count, uint32_t *val, size_t val_count,
+                                    const uint32_t *other, size_t other_cells, const uint32_t *other_ind, size_t other_ind_count,
+                                    const uint32_t *other_val, size_t other_val_count, int32_t *scratch, size_t scratch_count);
+uint64_t pirozhkan_sparse_union_with(uint32_t *state, size_t cells, uint32_t *ind, size_t ind_count, uint32_t *val, size_t val_count,
+                                     const uint32_t *other, size_t other_cells, const uint32_t *other_ind, size_t other_ind_count,
+                                     const uint32_t *other_val, size_t other_val_count);
+
+/* What to restore later goes into three cells: size, and the smallest and the largest held offset. Restored, it gives the saved members and
+ * bounds, if since then only calls of this library touched the three runs, with no union and no restore to a larger size. */
+uint64_t pirozhkan_sparse_save_state(const uint32_t *state, size_t cells, const uint32_t *ind, size_t ind_count, const uint32_t *val,
+                                     size_t val_count, uint32_t *saved, size_t count);
+uint64_t pirozhkan_sparse_restore_state(uint32_t *state, size_t cells, const uint32_t *ind, size_t ind_count, const uint32_t *val,
+                                        size_t val_count, uint32_t size, uint32_t min, uint32_t max);
+
+/* told: whether it is held. counted: how many are held. found: the smallest, the largest. */
+uint64_t pirozhkan_sparse_contains(const uint32_t *state, size_t cells, const uint32_t *ind, size_t ind_count, const uint32_t *val,
+                                   size_t val_count, int32_t value);
+uint64_t pirozhkan_sparse_size(const uint32_t *state, size_t cells, const uint32_t *ind, size_t ind_count, const uint32_t *val,
+                               size_t val_count);
+uint64_t pirozhkan_sparse_min(const uint32_t *state, size_t cells, const uint32_t *ind, size_t ind_count, const uint32_t *val,
+                              size_t val_count);
+uint64_t pirozhkan_sparse_max(const uint32_t *state, size_t cells, const uint32_t *ind, size_t ind_count, const uint32_t *val,
+                              size_t val_count);
+
+/* counted: how many values went out, in the set's own order; how many bytes the text has. The text is `[1,6,3|5,4,2]`: the held values, and
+ * the others of the universe. */
+uint64_t pirozhkan_sparse_values(const uint32_t *state, size_t cells, const uint32_t *ind, size_t ind_count, const uint32_t *val,
+                                 size_t val_count, int32_t *out, size_t count);
+uint64_t pirozhkan_sparse_text(const uint32_t *state, size_t cells, const uint32_t *ind, size_t ind_count, const uint32_t *val,
+                               size_t val_count, uint8_t *text, size_t room);
 
 /* ---- codes */
 

@@ -1,10 +1,8 @@
-/* The header and the library together: the paper's cases about the board, trials, refusals, damaged states.
- * With the word `speed`: what a call takes through the binding. */
+/* The header and the library together: the paper's eleven cases, trials, refusals, damaged states. */
 #include "pirozhkan.h"
 #include <stdio.h>
 #include <stdlib.h>
 #include <string.h>
-#include <time.h>
 
 #define W PIROZHKAN_WORDS
 
@@ -42,8 +40,145 @@ static bool holds_range(uint32_t id, int32_t min, int32_t max) {
     return holds(id, n, values);
 }
 
-/* Worked on paper, 7 to 11. */
-static void cases(void) {
+#define BIT PIROZHKAN_BIT_WORDS
+
+/* Bit domains, 1 to 3, with a word lent past the domain's. */
+static void bit_cases(void) {
+    uint64_t bits[BIT + 1] = {7, 7, 7, 7};
+    int32_t cells[129];
+    uint8_t text[PIROZHKAN_BIT_TEXT];
+    EXPECT(pirozhkan_bit_new(bits, BIT + 1, 0, 127) == 0);
+    EXPECT(pirozhkan_counted(pirozhkan_bit_size(bits, BIT)).count == 128);
+    EXPECT(pirozhkan_bit_remove_below(bits, BIT + 1, 64) == 0);
+    EXPECT(pirozhkan_counted(pirozhkan_bit_size(bits, BIT)).count == 64);
+    EXPECT(pirozhkan_refused(pirozhkan_bit_fixed_value(bits, BIT)) == PIROZHKAN_EMPTY);
+    EXPECT(pirozhkan_bit_remove_above(bits, BIT + 1, 64) == 0);
+    EXPECT(pirozhkan_found(pirozhkan_bit_fixed_value(bits, BIT)).value == 64);
+
+    EXPECT(pirozhkan_bit_new(bits, BIT + 1, 0, 128) == 0);
+    EXPECT(pirozhkan_bit_size(bits, BIT) == 0 && pirozhkan_refused(pirozhkan_bit_min(bits, BIT)) == PIROZHKAN_EMPTY);
+    /* the universe is (1, 0) */
+    EXPECT(bits[0] == UINT64_C(0x8000000080000001) && bits[1] == 0 && bits[2] == 0);
+
+    const int32_t values[] = {9, -3, 9, 124};
+    EXPECT(pirozhkan_bit_new_from_values(bits, BIT + 1, values, 4) == 0);
+    EXPECT(pirozhkan_told(pirozhkan_bit_insert(bits, BIT + 1, 10)).is && !pirozhkan_told(pirozhkan_bit_insert(bits, BIT + 1, 10)).is);
+    EXPECT(!pirozhkan_told(pirozhkan_bit_insert(bits, BIT + 1, 125)).is);
+    EXPECT(pirozhkan_told(pirozhkan_bit_contains(bits, BIT, -3)).is && !pirozhkan_told(pirozhkan_bit_contains(bits, BIT, 0)).is);
+    EXPECT(pirozhkan_found(pirozhkan_bit_min(bits, BIT)).value == -3 && pirozhkan_found(pirozhkan_bit_max(bits, BIT)).value == 124);
+    cells[4] = 77;
+    EXPECT(pirozhkan_counted(pirozhkan_bit_values(bits, BIT, cells, 129)).count == 4);
+    EXPECT(cells[0] == -3 && cells[1] == 9 && cells[2] == 10 && cells[3] == 124 && cells[4] == 77);
+    EXPECT(pirozhkan_bit_values(bits, BIT, cells, 3) == PIROZHKAN_NO_ROOM && cells[0] == -3);
+    EXPECT(pirozhkan_counted(pirozhkan_bit_text(bits, BIT, text, sizeof text)).count == 13 && memcmp(text, "[-3|9,10,124]", 13) == 0);
+    text[0] = 'x';
+    EXPECT(pirozhkan_bit_text(bits, BIT, text, 12) == PIROZHKAN_NO_ROOM && text[0] == 'x');
+    EXPECT(pirozhkan_told(pirozhkan_bit_remove(bits, BIT + 1, 9)).is && !pirozhkan_told(pirozhkan_bit_remove(bits, BIT + 1, 9)).is);
+    EXPECT(pirozhkan_bit_remove_all_but(bits, BIT + 1, 10) == 0 && pirozhkan_found(pirozhkan_bit_fixed_value(bits, BIT)).value == 10);
+    EXPECT(pirozhkan_bit_remove_all(bits, BIT + 1) == 0 && pirozhkan_bit_size(bits, BIT) == 0);
+    EXPECT(pirozhkan_bit_new_empty(bits, BIT + 1, 5, 4) == 0 && pirozhkan_told(pirozhkan_bit_insert(bits, BIT, 4)).is);
+    EXPECT(bits[BIT] == 7);
+    uint64_t before[BIT];
+    memcpy(before, bits, sizeof before);
+    EXPECT(pirozhkan_bit_new(bits, BIT - 1, 0, 9) == PIROZHKAN_NO_ROOM && pirozhkan_bit_insert(bits, 0, 5) == PIROZHKAN_NO_ROOM);
+    EXPECT(pirozhkan_bit_size(bits, 2) == PIROZHKAN_NO_ROOM && memcmp(before, bits, sizeof before) == 0);
+    /* every bit of the words changed in turn: Broken and left as it was, or a domain */
+    unsigned domains = 0, broken = 0;
+    for (unsigned at = 0; at < 64 * BIT; at++) {
+        memcpy(bits, before, sizeof before);
+        bits[at / 64] ^= UINT64_C(1) << at % 64;
+        uint64_t damaged[BIT];
+        memcpy(damaged, bits, sizeof damaged);
+        unsigned asked = pirozhkan_refused(pirozhkan_bit_size(bits, BIT));
+        EXPECT(pirozhkan_refused(pirozhkan_bit_insert(bits, BIT, 5)) == asked);
+        EXPECT(pirozhkan_refused(pirozhkan_bit_remove_below(bits, BIT, 5)) == asked && asked <= PIROZHKAN_BROKEN);
+        if (asked == PIROZHKAN_BROKEN) broken++, EXPECT(memcmp(damaged, bits, sizeof damaged) == 0);
+        else domains++;
+    }
+    EXPECT(domains > 0 && broken > 0);
+}
+
+#define CELLS PIROZHKAN_SPARSE_CELLS
+/* a set and its orderings, as the functions are lent them */
+#define SET(s) (s).state, CELLS, (s).ind, 16, (s).val, 16
+
+typedef struct {
+    uint32_t state[CELLS], ind[16], val[16];
+} sparse;
+
+static bool text_is(const sparse *s, const char *wanted) {
+    uint8_t text[256];
+    pirozhkan_count n = pirozhkan_counted(pirozhkan_sparse_text(SET(*s), text, sizeof text));
+    return n.refused == 0 && n.count == strlen(wanted) && memcmp(text, wanted, strlen(wanted)) == 0;
+}
+
+/* Sparse sets, 4 to 6. */
+static void sparse_cases(void) {
+    sparse s, t;
+    int32_t out[16];
+    uint32_t saved[4] = {7, 7, 7, 7};
+    const int32_t values[] = {1, 3, 6};
+    memset(&s, 0x5a, sizeof s);
+    EXPECT(pirozhkan_sparse_new_from_values(SET(s), values, 3) == 0 && text_is(&s, "[1,6,3|5,4,2]"));
+    EXPECT(s.ind[6] == 0x5a5a5a5a && s.val[6] == 0x5a5a5a5a);
+    EXPECT(pirozhkan_counted(pirozhkan_sparse_values(SET(s), out, 16)).count == 3 && out[0] == 1 && out[1] == 6 && out[2] == 3);
+    EXPECT(pirozhkan_sparse_values(SET(s), out, 2) == PIROZHKAN_NO_ROOM);
+    EXPECT(pirozhkan_told(pirozhkan_sparse_contains(SET(s), 6)).is && !pirozhkan_told(pirozhkan_sparse_contains(SET(s), 5)).is);
+
+    EXPECT(pirozhkan_sparse_new(SET(s), 3, 0) == 0);
+    EXPECT(pirozhkan_told(pirozhkan_sparse_remove(SET(s), 3)).is && text_is(&s, "[0,1,2|3]"));
+    EXPECT(pirozhkan_sparse_remove_all_but(SET(s), 1) == 0 && text_is(&s, "[1|0,2,3]"));
+
+    EXPECT(pirozhkan_sparse_new(SET(s), 0, 5) == 0 && pirozhkan_sparse_save_state(SET(s), saved, 4) == 0 && saved[3] == 7);
+    EXPECT(pirozhkan_told(pirozhkan_sparse_remove(SET(s), 5)).is && pirozhkan_told(pirozhkan_sparse_remove(SET(s), 0)).is);
+    EXPECT(pirozhkan_found(pirozhkan_sparse_min(SET(s))).value == 1 && pirozhkan_found(pirozhkan_sparse_max(SET(s))).value == 4);
+    EXPECT(pirozhkan_sparse_restore_state(SET(s), saved[0], saved[1], saved[2]) == 0);
+    EXPECT(pirozhkan_counted(pirozhkan_sparse_size(SET(s))).count == 6);
+    for (int32_t v = 0; v <= 5; v++) EXPECT(pirozhkan_told(pirozhkan_sparse_contains(SET(s), v)).is);
+    EXPECT(pirozhkan_found(pirozhkan_sparse_min(SET(s))).value == 0 && pirozhkan_found(pirozhkan_sparse_max(SET(s))).value == 5);
+    EXPECT(pirozhkan_sparse_restore_state(SET(s), 7, 0, 5) == PIROZHKAN_BAD_STATE);
+    EXPECT(pirozhkan_sparse_save_state(SET(s), saved, 2) == PIROZHKAN_NO_ROOM);
+
+    const int32_t odd[] = {1, 3, 5, 7};
+    EXPECT(pirozhkan_sparse_new_from_values(SET(t), odd, 4) == 0);
+    EXPECT(pirozhkan_sparse_intersect_with(SET(s), SET(t), out, 5) == PIROZHKAN_NO_ROOM);
+    out[3] = 77;
+    EXPECT(pirozhkan_sparse_intersect_with(SET(s), SET(t), out, 16) == 0 && pirozhkan_counted(pirozhkan_sparse_size(SET(s))).count == 3);
+    EXPECT(out[3] == 77 && pirozhkan_told(pirozhkan_sparse_contains(SET(s), 3)).is);
+    EXPECT(pirozhkan_sparse_diff_with(SET(s), SET(t), out, 16) == 0 && pirozhkan_sparse_size(SET(s)) == 0);
+    EXPECT(pirozhkan_sparse_union_with(SET(s), SET(t)) == 0 && pirozhkan_counted(pirozhkan_sparse_size(SET(s))).count == 3);
+    EXPECT(pirozhkan_sparse_remove_below(SET(s), 2) == 0 && pirozhkan_sparse_remove_above(SET(s), 4) == 0);
+    EXPECT(pirozhkan_found(pirozhkan_sparse_min(SET(s))).value == 3 && pirozhkan_found(pirozhkan_sparse_max(SET(s))).value == 3);
+    EXPECT(pirozhkan_sparse_remove_all(SET(s)) == 0 && pirozhkan_refused(pirozhkan_sparse_min(SET(s))) == PIROZHKAN_EMPTY);
+
+    /* too few cells, an ordering that is too short, a universe that is too wide: nothing is written */
+    sparse before = s;
+    EXPECT(pirozhkan_sparse_remove(s.state, CELLS - 1, s.ind, 16, s.val, 16, 3) == PIROZHKAN_NO_ROOM);
+    EXPECT(pirozhkan_sparse_new(s.state, CELLS - 1, s.ind, 16, s.val, 16, 0, 3) == PIROZHKAN_NO_ROOM);
+    EXPECT(pirozhkan_sparse_new(s.state, CELLS, s.ind, 16, s.val, 3, 0, 3) == PIROZHKAN_SHORT);
+    EXPECT(pirozhkan_sparse_new(SET(s), 0, 4096) == PIROZHKAN_TOO_WIDE && pirozhkan_sparse_new(SET(s), INT32_MIN, INT32_MAX) == PIROZHKAN_TOO_WIDE);
+    EXPECT(memcmp(&before, &s, sizeof s) == 0);
+    /* every bit of a set changed in turn: refused and left as it was, or a set */
+    unsigned sets = 0, refused = 0;
+    EXPECT(pirozhkan_sparse_new(SET(s), -3, 12) == 0);
+    EXPECT(pirozhkan_told(pirozhkan_sparse_remove(SET(s), 4)).is);
+    before = s;
+    for (size_t at = 0; at < 8 * sizeof s; at++) {
+        s = before;
+        ((unsigned char *)&s)[at / 8] ^= (unsigned char)(1 << at % 8);
+        sparse damaged = s;
+        unsigned asked = pirozhkan_refused(pirozhkan_sparse_size(SET(s)));
+        EXPECT(asked == 0 || asked == PIROZHKAN_BROKEN || asked == PIROZHKAN_TOO_WIDE || asked == PIROZHKAN_SHORT);
+        EXPECT(pirozhkan_refused(pirozhkan_sparse_remove_above(SET(s), 3)) == asked);
+        EXPECT(pirozhkan_refused(pirozhkan_sparse_remove(SET(s), 2)) == asked);
+        if (asked != 0) refused++, EXPECT(memcmp(&damaged, &s, sizeof s) == 0);
+        else sets++;
+    }
+    EXPECT(sets > 0 && refused > 0);
+}
+
+/* Boards, 7 to 11. */
+static void board_cases(void) {
     const uint32_t list[] = {1, 2, 3, 4, 5, 6, 7};
     pirozhkan_new(state, W);
     add(1, 5, 5);
@@ -242,49 +377,10 @@ static void damage(void) {
     printf("damaged states: %lu refused, %lu boards\n", broken, boards);
 }
 
-static double now(void) {
-    struct timespec t;
-    clock_gettime(CLOCK_MONOTONIC, &t);
-    return (double)t.tv_sec * 1e9 + (double)t.tv_nsec;
-}
-
-#define TIME(what, call)                                                                                                              \
-    do {                                                                                                                              \
-        double best = 1e18;                                                                                                           \
-        for (int run = 0; run < 300; run++) {                                                                                         \
-            double from = now();                                                                                                      \
-            for (uint32_t i = 0; i < 100; i++) EXPECT(pirozhkan_refused(call) == 0);                                                  \
-            double each = (now() - from) / 100;                                                                                       \
-            if (each < best) best = each;                                                                                             \
-        }                                                                                                                             \
-        printf("%-44s %8.0f ns\n", what, best);                                                                                       \
-    } while (0)
-
-static void speed(void) {
-    const uint32_t list[] = {1000, 2000, 3000, 4000, 5000, 6000};
-    full(0);
-    TIME("remove_value, 64 destinations", pirozhkan_remove_value(state, W, 1000 + 1000 * (i % 64), (int32_t)(i + run)));
-    TIME("domain_size", pirozhkan_domain_size(state, W, 1000 + 1000 * (i % 64)));
-    TIME("propagate_alldiff, 6 ids", pirozhkan_propagate_alldiff(state, W, list, 6));
-    TIME("ready, 6 ids", pirozhkan_ready(state, W, list, 6));
-    TIME("mark and restore", pirozhkan_mark(state, W) + pirozhkan_restore(state, W));
-    const char *sheet = "4\n20 1 3\n21 1 3\n22 1 2\n23 7 7\n2\n1 20 3\n2 21 2\n2\n3 20 21 22\n2 20 99\n";
-    uint8_t out[PIROZHKAN_TEXT];
-    uint32_t kinds[256], ids[256];
-    int32_t values[256];
-    for (uint32_t i = 0; i < 256; i++) kinds[i] = PIROZHKAN_REMOVE, ids[i] = 1000 + 1000 * (i % 64), values[i] = (int32_t)i;
-    TIME("batch of 256 closings", pirozhkan_batch(state, W, kinds, 256, ids, 256, values, 256));
-    TIME("wave, the paper's sheet", pirozhkan_wave((const uint8_t *)sheet, strlen(sheet), out, sizeof out));
-    full(8);
-    TIME("remove_value, 64 destinations, 8 marks open", pirozhkan_remove_value(state, W, 1000 + 1000 * (i % 64), (int32_t)(i + run)));
-}
-
-int main(int words, char **word) {
-    if (words > 1 && strcmp(word[1], "speed") == 0) {
-        speed();
-        return 0;
-    }
-    cases();
+int main(void) {
+    bit_cases();
+    sparse_cases();
+    board_cases();
     questions();
     batches();
     sheets();

@@ -2,7 +2,7 @@
 //!
 //! A [`Board`] holds up to 64 destinations and the chutes that each may still use. It lives in [`WORDS`] words that the caller
 //! lends, and may keep, copy and store as it likes. Each call looks at all of them first: words that aren't a well-formed board's
-//! are refused, and a refused call changes nothing.
+//! are refused, and a refused call changes nothing. A [`BitDomain`] and a [`Sparse`] set live in lent words and cells in the same way.
 //!
 //! ```
 //! use pirozhkan::{Board, Pair, Value, Variable, WORDS};
@@ -22,7 +22,12 @@
 use std::error::Error;
 use std::fmt;
 
+mod bit;
 mod calls;
+mod sparse;
+
+pub use bit::{BitDomain, BIT_TEXT, BIT_WORDS};
+pub use sparse::{Sparse, SparseState, SPARSE_CELLS};
 
 /// How many words a board takes.
 pub const WORDS: usize = 1283;
@@ -40,7 +45,7 @@ pub struct Value(pub i32);
 /// Why a call was refused. A place counts from 0.
 #[derive(Clone, Copy, Debug, PartialEq, Eq, Hash)]
 pub enum Refusal {
-    /// The words aren't a well-formed board's.
+    /// The words aren't a well-formed state's.
     Broken,
     /// A new destination, and 64 are registered.
     Full,
@@ -56,17 +61,17 @@ pub enum Refusal {
     Repeated(usize),
     /// A list of more than 64, or a batch of more than 256.
     TooLong,
-    /// A universe of too many values.
+    /// A sparse universe of more than 4,096 values.
     TooWide,
-    /// A run holds fewer cells than it must.
+    /// An ordering has fewer cells than its universe has values.
     Short,
     /// Bounds or a value where there is none.
     Empty,
-    /// A state that doesn't fit.
+    /// A restored state that doesn't fit the set.
     BadState,
     /// Two sets over different bounds.
     OtherUniverse,
-    /// Too few words for a board, or too few cells for an answer.
+    /// Too few words for a state, or too few cells for an answer.
     NoRoom,
     /// The input isn't a wave sheet, or a number in a batch is no kind.
     BadSheet(usize),
@@ -185,6 +190,11 @@ fn told(code: u64) -> Result<bool, Refusal> {
 
 fn counted(code: u64) -> Result<usize, Refusal> {
     payload(code).map(|n| n as usize)
+}
+
+// A chute stands in a code as its distance from the least i32.
+fn found(code: u64) -> Result<Value, Refusal> {
+    payload(code).map(|n| Value((n as i64 + i64::from(i32::MIN)) as i32))
 }
 
 /// How many bytes the text of a sheet's board takes at most.
@@ -311,8 +321,7 @@ impl<'a> Board<'a> {
 
     /// The one chute; [`Refusal::Empty`] where there are none or more.
     pub fn assigned_value(&self, id: Variable) -> Result<Value, Refusal> {
-        // A chute stands in a code as its distance from the least i32.
-        payload(calls::assigned_value(self.words, id)).map(|n| Value((n as i64 + i64::from(i32::MIN)) as i32))
+        found(calls::assigned_value(self.words, id))
     }
 
     /// The smallest and the largest chute; [`Refusal::Empty`] where there is none.

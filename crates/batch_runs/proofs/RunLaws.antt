@@ -1,6 +1,6 @@
 -- Runs of numbers, place by place. Assumes nothing.
 use mathlib.Core.Path.{_≡_, refl, sym, ap, _∙_}
-use mathlib.Core.Bool.{Bool, true, false, _&&_, cond}
+use mathlib.Core.Bool.{Bool, true, false, cond}
 use mathlib.Core.List.{List, [], _∷_, _++_}
 use Prim.Native.Nat.{ℕ, zero, suc, _+_, _≤_, _<_}
 use native.Mathlib.Nat.{not-suc-le-zero, le-of-suc-le-suc}
@@ -13,7 +13,6 @@ use lib.Seq.{drop-cons, take-suc, take-suc-set, take-all}
 use borrow.Author.Tests.{eq-eqb, ne-eqb, lt-ltb, le-ltb, eqb-true, ltb-false}
 use Rattle.rules.proofs.Tests.{and-false}
 use Rattle.closing.specs.declared.Closing.{Closing}
-use Rattle.batch_runs.specs.declared.Form.{Form}
 use Rattle.batch_runs.specs.declared.Form.the-variants as form
 use Rattle.batch_runs.specs.Runs.{isKind, kindsForm, formOf, closingAt, closingsOf}
 

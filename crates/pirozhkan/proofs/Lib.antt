@@ -2,3 +2,4 @@
 pub mod Guards
 pub mod EndsInto
 pub mod Batching
+pub mod Codes

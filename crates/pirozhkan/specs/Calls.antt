@@ -1,6 +1,6 @@
 -- The by-value calls that the exported ones make on the board that they read, by their numbers and lists.
 use mathlib.Core.Bool.{true, cond}
-use mathlib.Core.List.{List, _∷_}
+use mathlib.Core.List.{List}
 use Prim.Native.Nat.{ℕ}
 use lib.Dec.{ltb}
 use lib.IntN.{ℤ}

@@ -8,7 +8,6 @@
 // trials: pirozhkan_mark, pirozhkan_restore, pirozhkan_keep
 // questions: pirozhkan_domain_size, pirozhkan_is_assigned, pirozhkan_assigned_value, pirozhkan_is_inconsistent,
 //            pirozhkan_get_bounds, pirozhkan_get_domain_values, pirozhkan_variables, pirozhkan_domains_changed
-// sheets: pirozhkan_wave
 //
 // Each is the by-value call of the same name between reading and writing the state. None has a `requires`: whatever the
 // words are, a call answers, and leaves words that are too few or that aren't a well-formed board's as they came.
@@ -17,6 +16,5 @@ pub mod inner;
 pub mod lists;
 pub mod make;
 pub mod questions;
-pub mod sheets;
 pub mod shut;
 pub mod trials;

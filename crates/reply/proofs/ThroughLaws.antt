@@ -6,7 +6,7 @@ use Prim.Native.Nat.{ℕ, _≤_, _<_}
 use native.Mathlib.Omega.{arith}
 use lib.Dec.{ltb}
 use lib.ListN.{length, drop}
-use borrow.Author.Tests.{lt-ltb, le-ltb, ltb-true, ltb-false}
+use borrow.Author.Tests.{lt-ltb, le-ltb, ltb-false}
 use Rattle.rules.specs.Board as rules
 use Rattle.rules.specs.declared.Refusal.the-variants.{Broken, NoRoom}
 use Rattle.board.specs.Well.{wellBoard}
@@ -15,7 +15,7 @@ use Rattle.state.specs.Layout.{size, fitsOf, readOf, writtenOf}
 use Rattle.state.specs.Typed.{Words}
 use Rattle.state.proofs.Theorems.{written-back}
 use Rattle.reply.specs.Told.{coded}
-use Rattle.reply.specs.Through.{good, lentTo, Reply, Left, left, written, through, begun, answered, shown, judgeOf}
+use Rattle.reply.specs.Through.{lentTo, Reply, Left, left, written, through, begun, answered, shown, judgeOf}
 
 -- ---- the first test
 

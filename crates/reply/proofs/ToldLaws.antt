@@ -1,7 +1,7 @@
 -- The code of an answer is read back as that answer, so that two different answers of one call never have the same code. Assumes nothing.
 use mathlib.Core.Path.{_≡_, refl, sym, ap, _∙_}
 use mathlib.Core.Bool.{true, false, cond}
-use Prim.Native.Nat.{ℕ, _+_, _*_, _/_, _%_, _^_, _<_}
+use Prim.Native.Nat.{ℕ, _+_, _/_, _%_, _^_, _<_}
 use native.Mathlib.Omega.{arith}
 use lib.Dec.{eqb}
 use borrow.Author.Tests.{ne-eqb}
@@ -11,7 +11,7 @@ use Rattle.rules.specs.declared.Refusal.{Refusal}
 use Rattle.rules.specs.declared.Refusal.the-variants.{Broken, Full, TrialOpen, TooDeep, NoMark, Unknown, Repeated, TooLong, TooWide, Short, Empty, BadState, OtherUniverse, NoRoom, BadSheet}
 use Rattle.state.specs.Layout.{half}
 use Rattle.state.proofs.Halves.{half-small, half-back}
-use Rattle.reply.specs.Told.{packed, coded, Kind, nothing, yesNo, pair, number, chute, refusalAt, payload, toldBy, Of, done-of, said-of, pair-of, count-of, chute-of, denied-of}
+use Rattle.reply.specs.Told.{packed, coded, Kind, number, chute, refusalAt, payload, toldBy, Of, done-of, said-of, pair-of, count-of, chute-of, denied-of}
 
 pub number-range : (r : Refusal) → (0 < numberOf r) × (numberOf r < 16)
 number-range Broken = (omega arith, omega arith)

@@ -1,9 +1,8 @@
 // What an exported call returns: one number that carries the refusal or the answer, and what it does with words that are no
 // board's. The code is in specs/Told, and what a call does with the words it is lent in specs/Through.
 //
-// refusal, told, outcome, counted, found, pair; judge
+// refusal, said, count, chute; told, outcome, counted, found, pair: of the by-value calls' answers; judge
 ghost use mathlib.Core.Path.{_≡_};
-ghost use Prim.Native.Nat.{_≤_};
 ghost use Rattle.rules.specs.Board as rules;
 ghost use Rattle.board.specs.Obeys.{toldOf, outcomeOf};
 ghost use Rattle.board_ask.specs.Answers.{countOf, chuteOf};
@@ -17,6 +16,7 @@ use domain::Found;
 use domain::Outcome;
 use domain::Told;
 use rules::Refusal;
+use rules::Value;
 
 // A payload stands above the byte of the refusal's number.
 const PAYLOADS: u64 = 72057594037927936;
@@ -35,12 +35,30 @@ pub fn refusal(r: Refusal) -> u64
     (number as u64) + pack(place as u64)
 }
 
+pub fn said(y: bool) -> u64
+    ensures { λ n. ⌜ n ≡ coded (rules.said y) ⌝ }
+{
+    if y { 256 } else { 0 }
+}
+
+pub fn count(n: usize) -> u64
+    ensures { λ r. ⌜ r ≡ coded (rules.count n) ⌝ }
+{
+    pack(n as u64)
+}
+
+pub fn chute(v: Value) -> u64
+    ensures { λ n. ⌜ n ≡ coded (rules.chute (v .0)) ⌝ }
+{
+    pack(state::half_of(v.0))
+}
+
 pub fn told(t: Told) -> u64
     ensures { λ n. ⌜ n ≡ coded (toldOf t) ⌝ }
 {
     match t {
         Told::Refused(r) => refusal(r),
-        Told::Is(y) => { if y { 256 } else { 0 } }
+        Told::Is(y) => said(y),
     }
 }
 
@@ -58,7 +76,7 @@ pub fn counted(c: Counted) -> u64
 {
     match c {
         Counted::Refused(r) => refusal(r),
-        Counted::Count(n) => pack(n as u64),
+        Counted::Count(n) => count(n),
     }
 }
 
@@ -67,7 +85,7 @@ pub fn found(f: Found) -> u64
 {
     match f {
         Found::Refused(r) => refusal(r),
-        Found::At(v) => pack(state::half_of(v.0)),
+        Found::At(v) => chute(v),
     }
 }
 

@@ -3,13 +3,14 @@ use mathlib.Core.Path.{_≡_, refl, sym, ap, _∙_}
 use mathlib.Core.Bool.{Bool, true, false, _&&_}
 use Prim.Native.Nat.{ℕ, zero, suc, _+_, _*_, _^_, _/_, _%_, _<_}
 use native.Mathlib.Omega.{arith}
-use lib.Dec.{eqb, leb, ltb}
-use lib.IntN.{ℤ, pos, negsuc, _+ℤ_, _-ℤ_}
+use lib.Dec.{eqb, ltb}
+use lib.IntN.{ℤ, pos, negsuc, _-ℤ_}
 use lib.Signed.{leZ}
 use mir.Syntax.{w32}
-use mir.Val.{SFits}
+use mir.Val.{SFits, toZ, ofZ}
 use borrow.Author.Tests.{le-leb, ltb-true}
 use Rattle.offset.specs.Places.{placeOf, spanOf}
+use Rattle.offset.specs.Wide.{read32}
 use Rattle.offset.specs.Universe.{place-range, place-value, value-place, value-in}
 use Rattle.state.specs.Layout.{least, half, chuteAt, endsWord, flagOf}
 
@@ -69,6 +70,13 @@ high-back lo hi f g = ap chuteAt (high-of (half lo) (half hi) (half-small lo f))
 
 pub word-back : (w : ℕ) → w < 2 ^ 64 → endsWord (chuteAt (w % 2 ^ 32)) (chuteAt (w / 2 ^ 32)) ≡ w
 word-back w l = (λ t. chute-half (w % 2 ^ 32) (low-small w) t + chute-half (w / 2 ^ 32) (high-small w l) t * 2 ^ 32) ∙ joined w
+
+-- a chute that a call took out of a word, as its caller reads it
+pub low-read : (w : ℕ) (r : ℤ) → r ≡ chuteAt (w % 2 ^ 32) → toZ w32 (ofZ w32 r) ≡ chuteAt (w % 2 ^ 32)
+low-read w r e = ap (λ (z : ℤ). toZ w32 (ofZ w32 z)) e ∙ read32 (chute-fits (w % 2 ^ 32) (low-small w))
+
+pub high-read : (w : ℕ) (r : ℤ) → w < 2 ^ 64 → r ≡ chuteAt (w / 2 ^ 32) → toZ w32 (ofZ w32 r) ≡ chuteAt (w / 2 ^ 32)
+high-read w r l e = ap (λ (z : ℤ). toZ w32 (ofZ w32 z)) e ∙ read32 (chute-fits (w / 2 ^ 32) (high-small w l))
 
 -- ---- the flag
 

@@ -1,6 +1,6 @@
 -- Rows that are read one by one from a run of words. Assumes nothing.
 use mathlib.Core.Path.{_≡_, refl, sym, ap, _∙_}
-use mathlib.Core.List.{List, [], _∷_, _++_}
+use mathlib.Core.List.{List, [], _∷_}
 use mathlib.Core.Bool.{Bool, true, false}
 use Prim.Native.Nat.{ℕ, zero, suc, _+_, _*_, _^_, _≤_, _<_}
 use native.Mathlib.Nat.{not-suc-le-zero, le-of-suc-le-suc}
@@ -15,7 +15,7 @@ use Rattle.saved.specs.Upto.{upto}
 use Rattle.saved.proofs.UptoLaws.{each, all, one-fails}
 use Rattle.board.specs.Rows.{row0, rowAt}
 use Rattle.board.specs.declared.Row.{Row}
-use Rattle.state.specs.Layout.{start, rowWords, rowsWords, rowIn, rowsIn, fitsOf}
+use Rattle.state.specs.Layout.{start, rowsWords, rowIn, rowsIn, fitsOf}
 use Rattle.state.specs.Typed.{Words}
 use Rattle.state.proofs.Halves.{word-back}
 

@@ -10,7 +10,6 @@ use lib.Seq.{drop-cons, drop-drop, take-add, drop-at, take-at, length-take-le, s
 use mir.Syntax.{w32}
 use mir.Val.{SFits}
 use borrow.Author.Tests.{lt-ltb}
-use Rattle.saved.specs.Upto.{upto}
 use Rattle.saved.proofs.UptoLaws.{all}
 use Rattle.board.specs.Obeys.{Whole}
 use Rattle.board.specs.Rows.{idAt, rowAt, domainAt}

@@ -1,14 +1,14 @@
 // A board in a run of 64-bit words that a caller lends, so that a program in another language can keep it. The layout is in
 // specs/Layout: three words of counts and the flag, four words for each row, and the saved words.
 //
-// is_fitting, read, write; half_of: a chute in half a word
+// is_fitting, read, write; half_of, chute: a chute in half a word; ends_word, low_chute, high_chute: two in a word
 //
 // What is written is read back as the same board, and words that fit are the writing of the board that they are read as:
 // proofs/Theorems.
 ghost use mathlib.Core.Path.{_≡_};
 ghost use mathlib.Core.Bool.{true};
 ghost use mathlib.Core.List.{_++_};
-ghost use Prim.Native.Nat.{_+_, _*_, _<_, _≤_, _^_};
+ghost use Prim.Native.Nat.{_<_, _≤_, _^_, _/_, _%_};
 ghost use lib.ListN.{length, take, drop, getD};
 ghost use lib.Seq.{sets};
 ghost use Rattle.state.specs.Layout.{size, start, half, chuteAt, endsWord, flagOf, rowWords, rowsWords, writtenOf, fitsOf, rowIn, rowsIn, readOf};
@@ -38,17 +38,29 @@ pub fn half_of(v: i32) -> u64
     offset::place(v, LEAST, 4294967296) as u64
 }
 
-fn chute(n: u64) -> i32
-    requires { ⌜ n < 2 ^ 32 ⌝ }
+pub fn chute(n: u32) -> i32
     ensures { λ r. ⌜ r ≡ chuteAt n ⌝ }
 {
     offset::value(LEAST, n as usize)
 }
 
-fn ends_word(min: i32, max: i32) -> u64
+// Two chutes in a word, and each of them out of it.
+pub fn ends_word(min: i32, max: i32) -> u64
     ensures { λ r. ⌜ r ≡ endsWord min max ⌝ }
 {
     half_of(min) + half_of(max) * HALF
+}
+
+pub fn low_chute(ends: u64) -> i32
+    ensures { λ r. ⌜ r ≡ chuteAt (ends % 2 ^ 32) ⌝ }
+{
+    chute((ends % HALF) as u32)
+}
+
+pub fn high_chute(ends: u64) -> i32
+    ensures { λ r. ⌜ r ≡ chuteAt (ends / 2 ^ 32) ⌝ }
+{
+    chute((ends / HALF) as u32)
 }
 
 fn flag(y: bool) -> u64
@@ -88,8 +100,8 @@ fn row_at(ws: &[u64], i: usize) -> Row
     };
     let domain = BitDomain {
         mask,
-        min: chute(ends % HALF),
-        max: chute(ends / HALF),
+        min: low_chute(ends),
+        max: high_chute(ends),
     };
     Row {
         id: Variable(id),

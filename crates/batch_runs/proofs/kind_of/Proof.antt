@@ -1,6 +1,5 @@
 -- `batch_runs::kind_of` meets its contract: each return is the case of the tests that led there. Assumes nothing.
 use borrow.Author.Tests.{eq-eqb, ne-eqb}
-use borrow.Author.Needs.{needs}
 use Rattle.batch_runs.proofs.kind_of.Statement.{statement}
 use Rattle.batch_runs.proofs.kind_of.Tie as tie
 

@@ -1,17 +1,11 @@
 -- `reply::counted` meets its contract, by its two cases. Assumes nothing.
-use mathlib.Core.Path.{_≡_, refl, sym, ap, _∙_}
-use mathlib.Core.Bool.{Bool}
-use Rattle.rules.specs.Board as rules
+use mathlib.Core.Path.{sym, ap, _∙_}
 use Rattle.reply.specs.Told.{coded}
 use Rattle.domain.specs.declared.Counted.{Counted}
 use Rattle.board_ask.specs.Answers.{countOf}
 use borrow.Author.Needs.{needs}
 use Rattle.reply.proofs.counted.Statement.{statement}
 use Rattle.reply.proofs.counted.Tie as tie
-use Rattle.reply.proofs.counted.Reads as reads
-use Rattle.reply.proofs.counted.Lts as lts
-use Rattle.reply.proofs.pack.Reads as pack-reads
-use Rattle.reply.proofs.refusal.Reads as refusal-reads
 
 enum-known-c : tie.Need-enum-known-c
 enum-known-c c = search needs
@@ -22,8 +16,8 @@ refusal-requires c κs = search needs
 enum-known-c-2 : tie.Need-enum-known-c-2
 enum-known-c-2 c = search needs
 
-pack-requires : tie.Need-pack-requires
-pack-requires c κs = search needs
+count-requires : tie.Need-count-requires
+count-requires c κs = search needs
 
 returns : tie.Need-returns
 unfolding coded
@@ -31,9 +25,9 @@ returns c = c .refusal .ensures ∙ ap (λ (x : Counted). coded (countOf x)) (sy
 
 returns-2 : tie.Need-returns-2
 unfolding coded
-returns-2 c = c .pack .ensures ∙ sym (ap (λ (x : Counted). coded (countOf x)) (c .before .before .c2 .given .1))
+returns-2 c = c .count .ensures ∙ ap (λ (x : Counted). coded (countOf x)) (sym (c .before .before .c2 .given .1))
 
 pub counted-spec : {M : Type 1} → statement M
 counted-spec =
     tie.close
-    (tie.spec enum-known-c refusal-requires enum-known-c-2 pack-requires returns returns-2)
+    (tie.spec enum-known-c refusal-requires enum-known-c-2 count-requires returns returns-2)

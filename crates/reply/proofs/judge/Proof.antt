@@ -6,9 +6,6 @@ use Rattle.state.specs.Typed.{Words}
 use borrow.Author.Needs.{needs}
 use Rattle.reply.proofs.judge.Statement.{statement}
 use Rattle.reply.proofs.judge.Tie as tie
-use Rattle.reply.proofs.judge.Reads as reads
-use Rattle.reply.proofs.judge.Lts as lts
-use Rattle.state.proofs.is_fitting.Reads as is-fitting-reads
 
 -- a lent word has 64 bits
 words : (c : tie.After-shared-slice-known) → Words (c .before .args .ws .now)

@@ -1,16 +1,11 @@
 -- `reply::outcome` meets its contract, by its two cases. Assumes nothing.
-use mathlib.Core.Path.{_≡_, refl, sym, ap, _∙_}
-use mathlib.Core.Bool.{Bool}
-use Rattle.rules.specs.Board as rules
+use mathlib.Core.Path.{sym, ap, _∙_}
 use Rattle.reply.specs.Told.{coded}
 use Rattle.domain.specs.declared.Outcome.{Outcome}
 use Rattle.board.specs.Obeys.{outcomeOf}
 use borrow.Author.Needs.{needs}
 use Rattle.reply.proofs.outcome.Statement.{statement}
 use Rattle.reply.proofs.outcome.Tie as tie
-use Rattle.reply.proofs.outcome.Reads as reads
-use Rattle.reply.proofs.outcome.Lts as lts
-use Rattle.reply.proofs.refusal.Reads as refusal-reads
 
 enum-known-o : tie.Need-enum-known-o
 enum-known-o c = search needs

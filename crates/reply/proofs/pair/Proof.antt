@@ -1,17 +1,11 @@
 -- `reply::pair` meets its contract, by its two cases. Assumes nothing.
-use mathlib.Core.Path.{_≡_, refl, sym, ap, _∙_}
-use mathlib.Core.Bool.{Bool}
-use Rattle.rules.specs.Board as rules
+use mathlib.Core.Path.{sym, ap, _∙_}
 use Rattle.reply.specs.Told.{coded}
 use Rattle.board_spread.specs.declared.Pair.{Pair}
 use Rattle.board_spread.specs.Spread.{pairOf}
 use borrow.Author.Needs.{needs}
 use Rattle.reply.proofs.pair.Statement.{statement}
 use Rattle.reply.proofs.pair.Tie as tie
-use Rattle.reply.proofs.pair.Reads as reads
-use Rattle.reply.proofs.pair.Lts as lts
-use Rattle.reply.proofs.both.Reads as both-reads
-use Rattle.reply.proofs.refusal.Reads as refusal-reads
 
 enum-known-p : tie.Need-enum-known-p
 enum-known-p c = search needs

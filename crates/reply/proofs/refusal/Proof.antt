@@ -7,11 +7,6 @@ use Rattle.reply.proofs.ToldLaws.{number-range, code-fits}
 use borrow.Author.Needs.{needs}
 use Rattle.reply.proofs.refusal.Statement.{statement}
 use Rattle.reply.proofs.refusal.Tie as tie
-use Rattle.reply.proofs.refusal.Reads as reads
-use Rattle.reply.proofs.refusal.Lts as lts
-use Rattle.reply.proofs.pack.Reads as pack-reads
-use Rattle.rules.proofs.Refusal.number.Reads as number-reads
-use Rattle.rules.proofs.Refusal.place.Reads as place-reads
 
 number-requires : tie.Need-number-requires
 number-requires c κs = search needs

@@ -1,16 +1,11 @@
 -- `reply::told` meets its contract, by its two cases. Assumes nothing.
-use mathlib.Core.Path.{_≡_, refl, sym, ap, _∙_}
-use mathlib.Core.Bool.{Bool}
-use Rattle.rules.specs.Board as rules
+use mathlib.Core.Path.{sym, ap, _∙_}
 use Rattle.reply.specs.Told.{coded}
 use Rattle.domain.specs.declared.Told.{Told}
 use Rattle.board.specs.Obeys.{toldOf}
 use borrow.Author.Needs.{needs}
 use Rattle.reply.proofs.told.Statement.{statement}
 use Rattle.reply.proofs.told.Tie as tie
-use Rattle.reply.proofs.told.Reads as reads
-use Rattle.reply.proofs.told.Lts as lts
-use Rattle.reply.proofs.refusal.Reads as refusal-reads
 
 enum-known-t : tie.Need-enum-known-t
 enum-known-t c = search needs
@@ -21,18 +16,18 @@ refusal-requires c κs = search needs
 enum-known-t-2 : tie.Need-enum-known-t-2
 enum-known-t-2 c = search needs
 
+said-requires : tie.Need-said-requires
+said-requires c κs = search needs
+
 returns : tie.Need-returns
 unfolding coded
 returns c = c .refusal .ensures ∙ ap (λ (x : Told). coded (toldOf x)) (sym (c .before .before .t .given .1))
 
 returns-2 : tie.Need-returns-2
 unfolding coded
-returns-2 c = sym (ap (λ (x : Told). coded (toldOf x)) (c .before .before .t2 .given .1) ∙ ap (λ (y : Bool). coded (rules.said y)) (c .if1 .taken))
-
-returns-3 : tie.Need-returns-3
-unfolding coded
-returns-3 c = sym (ap (λ (x : Told). coded (toldOf x)) (c .before .before .t2 .given .1) ∙ ap (λ (y : Bool). coded (rules.said y)) (c .if1 .left))
+returns-2 c = c .said .ensures ∙ ap (λ (x : Told). coded (toldOf x)) (sym (c .before .before .t2 .given .1))
 
 pub told-spec : {M : Type 1} → statement M
 told-spec =
-    tie.close (tie.spec enum-known-t refusal-requires enum-known-t-2 returns returns-2 returns-3)
+    tie.close
+    (tie.spec enum-known-t refusal-requires enum-known-t-2 said-requires returns returns-2)

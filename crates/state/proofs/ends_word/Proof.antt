@@ -2,14 +2,10 @@
 use mathlib.Core.Path.{ap, _∙_}
 use Rattle.offset.specs.Wide.{read32}
 use Rattle.state.specs.Layout.{half}
-use mathlib.Core.Path.{_≡_}
 use Prim.Native.Nat.{_+_, _*_, _^_}
 use borrow.Author.Needs.{needs}
 use Rattle.state.proofs.ends_word.Statement.{statement}
 use Rattle.state.proofs.ends_word.Tie as tie
-use Rattle.state.proofs.ends_word.Reads as reads
-use Rattle.state.proofs.ends_word.Lts as lts
-use Rattle.state.proofs.half_of.Reads as half-of-reads
 
 half-of-requires : tie.Need-half-of-requires
 half-of-requires c κs = search needs

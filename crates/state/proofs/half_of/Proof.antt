@@ -7,9 +7,6 @@ use Rattle.state.proofs.Halves.{half-small}
 use borrow.Author.Needs.{needs}
 use Rattle.state.proofs.half_of.Statement.{statement}
 use Rattle.state.proofs.half_of.Tie as tie
-use Rattle.state.proofs.half_of.Reads as reads
-use Rattle.state.proofs.half_of.Lts as lts
-use Rattle.offset.proofs.place.Reads as place-reads
 
 place-requires : tie.Need-place-requires
 place-requires c κs = search needs

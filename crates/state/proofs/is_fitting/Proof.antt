@@ -9,8 +9,6 @@ use Rattle.state.proofs.Reading.{no-flag, no-id, all-fit}
 use borrow.Author.Needs.{needs}
 use Rattle.state.proofs.is_fitting.Statement.{statement}
 use Rattle.state.proofs.is_fitting.Tie as tie
-use Rattle.state.proofs.is_fitting.Reads as reads
-use Rattle.state.proofs.is_fitting.Lts as lts
 
 abbrev Inv-loop : tie.InvT-loop
 Inv-loop ws i₀ i = (i ≤ 64) × ((k : ℕ) → k < i → getD ws (start k) 0 < 2 ^ 32)

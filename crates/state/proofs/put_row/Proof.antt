@@ -14,9 +14,6 @@ use Rattle.state.proofs.Runs.{four-sets}
 use borrow.Author.Needs.{needs}
 use Rattle.state.proofs.put_row.Statement.{statement}
 use Rattle.state.proofs.put_row.Tie as tie
-use Rattle.state.proofs.put_row.Reads as reads
-use Rattle.state.proofs.put_row.Lts as lts
-use Rattle.state.proofs.ends_word.Reads as ends-word-reads
 
 mul-at : tie.Need-mul-at
 mul-at c = search needs

@@ -14,9 +14,6 @@ use Rattle.state.proofs.Runs.{rows-more}
 use borrow.Author.Needs.{needs}
 use Rattle.state.proofs.put_rows.Statement.{statement}
 use Rattle.state.proofs.put_rows.Tie as tie
-use Rattle.state.proofs.put_rows.Reads as reads
-use Rattle.state.proofs.put_rows.Lts as lts
-use Rattle.state.proofs.put_row.Reads as put-row-reads
 
 abbrev Inv-loop : tie.InvT-loop
 Inv-loop ws₀ rows i₀ ws i = (i ≤ 64) × (length ws ≡ length ws₀) × (sets ws (start i) (rowsWords (drop i rows)) ≡ sets ws₀ 3 (rowsWords rows))

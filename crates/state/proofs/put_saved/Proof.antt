@@ -1,8 +1,7 @@
 -- `state::put_saved` meets its contract. The invariant: with the words from k on written too, the words are as with all written. Assumes nothing.
 use Prim.Native.Nat.{_<_}
 use mathlib.Core.Path.{_≡_, refl, sym, ap, _∙_}
-use mathlib.Core.List.{List}
-use Prim.Native.Nat.{ℕ, _+_, _-_, _≤_}
+use Prim.Native.Nat.{_+_, _-_, _≤_}
 use native.Mathlib.Omega.{arith}
 use lib.ListN.{length, drop, drop-of-length-le, length-set}
 use lib.Seq.{sets}
@@ -10,8 +9,6 @@ use Rattle.state.proofs.Runs.{word-more}
 use borrow.Author.Needs.{needs}
 use Rattle.state.proofs.put_saved.Statement.{statement}
 use Rattle.state.proofs.put_saved.Tie as tie
-use Rattle.state.proofs.put_saved.Reads as reads
-use Rattle.state.proofs.put_saved.Lts as lts
 
 abbrev Inv-loop : tie.InvT-loop
 Inv-loop saved ws₀ k₀ ws k = (k ≤ 1024) × (length ws ≡ length ws₀) × (sets ws (259 + k) (drop k saved) ≡ sets ws₀ 259 saved)

@@ -5,10 +5,6 @@ use Rattle.state.specs.Layout.{readOf}
 use borrow.Author.Needs.{needs}
 use Rattle.state.proofs.read.Statement.{statement}
 use Rattle.state.proofs.read.Tie as tie
-use Rattle.state.proofs.read.Reads as reads
-use Rattle.state.proofs.read.Lts as lts
-use Rattle.state.proofs.rows_of.Reads as rows-of-reads
-use Rattle.state.proofs.saved_of.Reads as saved-of-reads
 
 rows-of-requires : tie.Need-rows-of-requires
 rows-of-requires c κs = search needs

@@ -1,21 +1,14 @@
 -- `state::row_at` meets its contract: the four words that it reads are those of the definition. Assumes nothing.
-use mathlib.Core.Path.{_≡_, ap, _∙_}
-use Prim.Native.Nat.{_+_, _%_, _/_, _^_, _<_}
+use Prim.Native.Nat.{_+_, _<_, _^_}
 use native.Mathlib.Omega.{arith}
 use lib.IntN.{ℤ}
 use lib.ListN.{getD}
-use mir.Syntax.{w32}
-use mir.Val.{toZ, ofZ}
-use Rattle.offset.specs.Wide.{read32}
 use Rattle.board.specs.declared.Row.{Row}
-use Rattle.state.specs.Layout.{start, chuteAt, rowIn}
-use Rattle.state.proofs.Halves.{chute-fits, low-small, high-small}
+use Rattle.state.specs.Layout.{start, rowIn}
+use Rattle.state.proofs.Halves.{low-read, high-read}
 use borrow.Author.Needs.{needs}
 use Rattle.state.proofs.row_at.Statement.{statement}
 use Rattle.state.proofs.row_at.Tie as tie
-use Rattle.state.proofs.row_at.Reads as reads
-use Rattle.state.proofs.row_at.Lts as lts
-use Rattle.state.proofs.chute.Reads as chute-reads
 
 mul-at : tie.Need-mul-at
 mul-at c = search needs
@@ -41,32 +34,29 @@ mul-ends c = search needs
 shared-slice-read-ends : tie.Need-shared-slice-read-ends
 shared-slice-read-ends c = search needs
 
-add-chute : tie.Need-add-chute
-add-chute c = search needs
+add-t8 : tie.Need-add-t8
+add-t8 c = search needs
 
-mul-chute : tie.Need-mul-chute
-mul-chute c = search needs
+mul-t11 : tie.Need-mul-t11
+mul-t11 c = search needs
 
-shared-slice-read-chute : tie.Need-shared-slice-read-chute
-shared-slice-read-chute c = search needs
+shared-slice-read-t10 : tie.Need-shared-slice-read-t10
+shared-slice-read-t10 c = search needs
 
-add-chute-2 : tie.Need-add-chute-2
-add-chute-2 c = search needs
+add-t14 : tie.Need-add-t14
+add-t14 c = search needs
 
-mul-chute-2 : tie.Need-mul-chute-2
-mul-chute-2 c = search needs
+mul-t15 : tie.Need-mul-t15
+mul-t15 c = search needs
 
-shared-slice-read-chute-2 : tie.Need-shared-slice-read-chute-2
-shared-slice-read-chute-2 c = search needs
+shared-slice-read-t17 : tie.Need-shared-slice-read-t17
+shared-slice-read-t17 c = search needs
 
-chute-requires : tie.Need-chute-requires
-chute-requires c κs = search needs
+low-chute-requires : tie.Need-low-chute-requires
+low-chute-requires c κs = search needs
 
-chute-requires-2 : tie.Need-chute-requires-2
-chute-requires-2 c κs =
-    let s = c .before in
-    let a = s .before .before .before .before .before .args in
-    high-small (getD (a .ws .now) (start (a .i) + 1) 0) (omega (arith, s .shared-slice-known5 .given (start (a .i) + 1)))
+high-chute-requires : tie.Need-high-chute-requires
+high-chute-requires c κs = search needs
 
 -- a row over other ends
 with-ends : Row → ℤ → ℤ → Row
@@ -79,9 +69,7 @@ returns c =
     let a = s .before .before .before .before .before .args in
     let w = getD (a .ws .now) (start (a .i) + 1) 0 in
     let f : w < 2 ^ 64 = omega (arith, s .shared-slice-known5 .given (start (a .i) + 1)) in
-    let min : toZ w32 (ofZ w32 (c .before .chute .result)) ≡ chuteAt (w % 2 ^ 32) = ap (λ (z : ℤ). toZ w32 (ofZ w32 z)) (c .before .chute .ensures) ∙ read32 (chute-fits (w % 2 ^ 32) (low-small w)) in
-    let max : toZ w32 (ofZ w32 (c .chute2 .result)) ≡ chuteAt (w / 2 ^ 32) = ap (λ (z : ℤ). toZ w32 (ofZ w32 z)) (c .chute2 .ensures) ∙ read32 (chute-fits (w / 2 ^ 32) (high-small w f)) in
-    λ t. with-ends (rowIn (a .ws .now) (a .i)) (min t) (max t)
+    λ t. with-ends (rowIn (a .ws .now) (a .i)) (low-read w (c .before .low-chute .result) (c .before .low-chute .ensures) t) (high-read w (c .high-chute .result) f (c .high-chute .ensures) t)
 
 pub row-at-spec : {M : Type 1} → statement M
 row-at-spec =
@@ -95,12 +83,12 @@ row-at-spec =
     add-ends
     mul-ends
     shared-slice-read-ends
-    add-chute
-    mul-chute
-    shared-slice-read-chute
-    add-chute-2
-    mul-chute-2
-    shared-slice-read-chute-2
-    chute-requires
-    chute-requires-2
+    add-t8
+    mul-t11
+    shared-slice-read-t10
+    add-t14
+    mul-t15
+    shared-slice-read-t17
+    low-chute-requires
+    high-chute-requires
     returns)

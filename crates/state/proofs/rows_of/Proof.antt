@@ -1,9 +1,8 @@
 -- `state::rows_of` meets its contract: row after row is that of the words. Assumes nothing.
 use lib.ListN.{replicate}
 use borrow.Author.Count.{below-none}
-use mathlib.Core.Path.{_≡_, refl, sym, ap, _∙_}
-use Prim.Native.Nat.{ℕ, _+_, _-_, _≤_, _<_}
-use native.Mathlib.Nat.{not-suc-le-zero}
+use mathlib.Core.Path.{_≡_, refl}
+use Prim.Native.Nat.{ℕ, _-_, _≤_, _<_}
 use native.Mathlib.Omega.{arith}
 use lib.ListN.{length, length-set}
 use borrow.Author.Count.{below-more}
@@ -13,9 +12,6 @@ use Rattle.state.proofs.Reading.{rows-are, row-set, fits-id}
 use borrow.Author.Needs.{needs}
 use Rattle.state.proofs.rows_of.Statement.{statement}
 use Rattle.state.proofs.rows_of.Tie as tie
-use Rattle.state.proofs.rows_of.Reads as reads
-use Rattle.state.proofs.rows_of.Lts as lts
-use Rattle.state.proofs.row_at.Reads as row-at-reads
 
 abbrev Inv-loop : tie.InvT-loop
 Inv-loop ws rows₀ i₀ rows i = (i ≤ 64) × (length rows ≡ 64) × ((k : ℕ) → k < i → rowAt rows k ≡ rowIn ws k)

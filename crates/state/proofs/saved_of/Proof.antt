@@ -1,7 +1,7 @@
 -- `state::saved_of` meets its contract: word after word is copied. Assumes nothing.
 use lib.ListN.{take, drop, length-drop}
 use lib.Seq.{ext-getD, length-take-le, getD-take, getD-drop}
-use mathlib.Core.Path.{_≡_, refl, sym, ap, _∙_}
+use mathlib.Core.Path.{_≡_, refl, sym, _∙_}
 use Prim.Native.Nat.{ℕ, _+_, _-_, _≤_, _<_}
 use native.Mathlib.Nat.{not-suc-le-zero}
 use native.Mathlib.Omega.{arith}
@@ -10,8 +10,6 @@ use Rattle.board.proofs.Seats.{copied}
 use borrow.Author.Needs.{needs}
 use Rattle.state.proofs.saved_of.Statement.{statement}
 use Rattle.state.proofs.saved_of.Tie as tie
-use Rattle.state.proofs.saved_of.Reads as reads
-use Rattle.state.proofs.saved_of.Lts as lts
 
 abbrev Inv-loop : tie.InvT-loop
 Inv-loop ws saved₀ k₀ saved k = (k ≤ 1024) × (length saved ≡ 1024) × ((j : ℕ) → j < k → getD saved j 0 ≡ getD ws (259 + j) 0)

@@ -1,5 +1,5 @@
 -- `state::write` meets its contract: its stores, one after the other, are those of the words from the first on. Assumes nothing.
-use mathlib.Core.Path.{_≡_, sym, ap, _∙_, subst}
+use mathlib.Core.Path.{sym, ap, _∙_, subst}
 use mathlib.Core.List.{List, [], _∷_}
 use Prim.Native.Nat.{ℕ, _≤_}
 use native.Mathlib.Omega.{arith}
@@ -12,11 +12,6 @@ use Rattle.state.proofs.Theorems.{stores}
 use borrow.Author.Needs.{needs}
 use Rattle.state.proofs.write.Statement.{statement}
 use Rattle.state.proofs.write.Tie as tie
-use Rattle.state.proofs.write.Reads as reads
-use Rattle.state.proofs.write.Lts as lts
-use Rattle.state.proofs.flag.Reads as flag-reads
-use Rattle.state.proofs.put_rows.Reads as put-rows-reads
-use Rattle.state.proofs.put_saved.Reads as put-saved-reads
 
 slice-write-ws : tie.Need-slice-write-ws
 slice-write-ws c = search needs

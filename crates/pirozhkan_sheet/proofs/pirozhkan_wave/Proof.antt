@@ -1,10 +1,10 @@
--- `pirozhkan::sheets::pirozhkan_wave` meets its contract: it is the by-value call, and its answer told. Assumes nothing.
+-- `pirozhkan_sheet::pirozhkan_wave` meets its contract: it is the by-value call, and its answer told. Assumes nothing.
 use mathlib.Core.Path.{ap, _∙_}
 use Rattle.reply.specs.Through.{left}
-use Rattle.pirozhkan.specs.Sheets.{texted}
+use Rattle.pirozhkan_sheet.specs.Sheets.{texted}
 use borrow.Author.Needs.{needs}
-use Rattle.pirozhkan.proofs.sheets.pirozhkan_wave.Statement.{statement}
-use Rattle.pirozhkan.proofs.sheets.pirozhkan_wave.Tie as tie
+use Rattle.pirozhkan_sheet.proofs.pirozhkan_wave.Statement.{statement}
+use Rattle.pirozhkan_sheet.proofs.pirozhkan_wave.Tie as tie
 
 wave-requires : tie.Need-wave-requires
 wave-requires c κs = search needs

@@ -1,0 +1,237 @@
+-- Every answer of an exported call of the board has room in its code, so that `toldBy` reads it back: a list that is looked at has at most 64 ids
+-- and a batch at most 256 closings, so no place and no count comes near 2 ^ 56. Assumes nothing.
+use mathlib.Core.Path.{_≡_, refl}
+use mathlib.Core.Bool.{Bool, true, false, not, cond}
+use mathlib.Core.List.{List, [], _∷_, map}
+use Prim.Native.Nat.{ℕ, suc, _+_, _≤_, _<_, _^_}
+use native.Mathlib.Omega.{arith}
+use lib.Dec.{eqb, leb, ltb}
+use lib.IntN.{ℤ}
+use lib.ListN.{length}
+use borrow.Author.Tests.{leb-true}
+use Rattle.rules.specs.Board as rules
+use Rattle.rules.specs.Pass.{pass}
+use Rattle.rules.specs.Sets.{every, some}
+use Rattle.rules.specs.Refusals.{placeOf}
+use Rattle.rules.specs.declared.Refusal.{Refusal}
+use Rattle.rules.specs.declared.Refusal.the-variants.{Broken, Full, TrialOpen, TooDeep, NoMark, Unknown, Repeated, TooLong, NoRoom}
+use Rattle.mask.specs.Val.{val}
+use Rattle.mask.specs.Sets.{ones-le}
+use Rattle.domain.specs.Set.{setOf, width, well}
+use Rattle.domain.specs.Calls.{newOf, sizeOf, isFixedOf, isEmptyOf}
+use Rattle.domain.specs.declared.BitDomain.{BitDomain}
+use Rattle.domain.specs.declared.Told.the-variants as told
+use Rattle.domain.specs.declared.Counted.the-variants as counted
+use Rattle.domain.proofs.Places.{well-width, well-fits}
+use Rattle.domain.proofs.Ends.{size-ones}
+use Rattle.domain_values.specs.Calls.{fromValuesOf}
+use Rattle.closing.specs.declared.Closing.{Closing}
+use Rattle.board.specs.Answers.{said, unsaid, done, denied}
+use Rattle.board.specs.Obeys.{toldOf, outcomeOf}
+use Rattle.board.specs.Rows.{idAt, domainAt, seatIn, seat, nowhere, withRows}
+use Rattle.board.specs.Well.{wellBoard}
+use Rattle.board.specs.View.{view, rowsFrom}
+use Rattle.board.specs.declared.Board.{Board}
+use Rattle.board_enter.specs.Enter.{enterOf, entered}
+use Rattle.board_close.specs.Close.{closeAt, closeOf, resetOf, changedOf}
+use Rattle.board_list.specs.Places.{verdictOf}
+use Rattle.board_ask.specs.Answers.{countOf}
+use Rattle.board_ask.specs.Domains.{domainOf}
+use Rattle.board_ask.specs.Questions.{domainSizeOf, isAssignedOf, isInconsistentOf}
+use Rattle.board_ask.specs.Ready.{assigned, judge, readyOf}
+use Rattle.board_spread.specs.Spread.{pairOf, prunedBy, prunedOf, handed, refused, spreadOf}
+use Rattle.trial.specs.Marks.{markOf, restoreOf, keepOf, marked, restored, released}
+use Rattle.batch.specs.Batch.{closedBy, closedAll, isYes, yeses, batchOf}
+use Rattle.state.specs.Layout.{size, readOf}
+use Rattle.reply.specs.Told.{coded, Kind, nothing, yesNo, pair, number, toldBy, Of, done-of, said-of, pair-of, count-of, denied-of}
+use Rattle.reply.specs.Through.{good, lentTo, Reply, left, written, through, answered}
+use Rattle.reply.proofs.ToldLaws.{told-back}
+use Rattle.pirozhkan.specs.Calls.{named, chute, ranging, listing, closing, resetting, spreading, marking, restoring, keeping, whetherReady, sizing, whetherAssigned, whetherInconsistent, whetherChanged}
+use Rattle.pirozhkan.specs.Batches.{batching}
+
+-- ---- what the code of a call tells, if its answers have room
+
+pub answered-told : (k : Kind) (f : Board → rules.Answer) → ((b : Board) → Of k (f b)) → (ws : List ℕ) → toldBy k (answered f ws) ≡ lentTo ws (λ a. a) f
+unfolding answered
+answered-told k f room ws = go (ltb (length ws) size) (good ws)
+  where
+    go : (few fine : Bool) → toldBy k (cond few (coded (rules.denied NoRoom)) (cond fine (coded (f (readOf ws))) (coded (rules.denied Broken)))) ≡ cond few (rules.denied NoRoom) (cond fine (f (readOf ws)) (rules.denied Broken))
+    go true fine = told-back k (rules.denied NoRoom) (denied-of (omega arith))
+    go false true = told-back k (f (readOf ws)) (room (readOf ws))
+    go false false = told-back k (rules.denied Broken) (denied-of (omega arith))
+
+pub through-told : (k : Kind) (f : Board → Reply) → ((b : Board) → Of k (f b .answer)) → (ws : List ℕ) → toldBy k (through f ws .code) ≡ lentTo ws (λ a. a) (λ b. f b .answer)
+unfolding through
+through-told k f room ws = go (ltb (length ws) size) (good ws)
+  where
+    go : (few fine : Bool) → toldBy k (cond few (left (coded (rules.denied NoRoom)) ws) (cond fine (written ws (f (readOf ws))) (left (coded (rules.denied Broken)) ws)) .code) ≡ cond few (rules.denied NoRoom) (cond fine (f (readOf ws) .answer) (rules.denied Broken))
+    go true fine = told-back k (rules.denied NoRoom) (denied-of (omega arith))
+    go false true = told-back k (f (readOf ws) .answer) (room (readOf ws))
+    go false false = told-back k (rules.denied Broken) (denied-of (omega arith))
+
+-- ---- the parts
+
+entering : (d : BitDomain) (id : ℕ) (b : Board) → Of nothing (outcomeOf (enterOf b (named id) d .answer))
+unfolding enterOf
+entering d id b = go (wellBoard b) (eqb (b .marks) 0) (ltb (seat b id) nowhere) (ltb (b .count) 64)
+  where
+    known = entered b (named id) d (seat b id) (b .count)
+
+    new = entered b (named id) d (b .count) (b .count + 1)
+
+    go : (w m p n : Bool) → Of nothing (outcomeOf (cond w (cond m (cond p (done known) (cond n (done new) (denied b Full))) (denied b TrialOpen)) (denied b Broken) .answer))
+    go true true true n = done-of
+    go true true false true = done-of
+    go true true false false = denied-of (omega arith)
+    go true false p n = denied-of (omega arith)
+    go false m p n = denied-of (omega arith)
+
+trying : (w y : Bool) (c b : Board) (r : Refusal) → placeOf r < 2 ^ 56 → Of nothing (outcomeOf (cond w (cond y (done c) (denied b r)) (denied b Broken) .answer))
+trying true true c b r l = done-of
+trying true false c b r l = denied-of l
+trying false y c b r l = denied-of (omega arith)
+
+telling : (w v y : Bool) → Of yesNo (toldOf (cond w (cond v (told.Is y) (told.Refused Broken)) (told.Refused Broken)))
+telling true true y = said-of y
+telling true false y = denied-of (omega arith)
+telling false v y = denied-of (omega arith)
+
+closes : rules.Kind → Board → ℤ → ℕ → Bool
+closes k b v p = rules.closes k v (setOf (domainAt (b .rows) p))
+
+-- a list of at most 64 ids names no place past them
+verdictPlace : rules.Verdict → ℕ
+verdictPlace rules.accepted = 0
+verdictPlace (rules.refused r) = placeOf r
+
+scan-near : (rs : rules.Rows) (seen : List ℕ) (p : ℕ) (is : List ℕ) → p + length is ≤ 64 → verdictPlace (rules.scan rs seen p is) ≤ 64
+unfolding verdictPlace
+scan-near rs seen p [] h = omega arith
+scan-near rs seen p (i ∷ is) h = go (rules.known rs i) (not (rules.among i seen)) (scan-near rs (i ∷ seen) (suc p) is (omega arith))
+  where
+    rest = rules.scan rs (i ∷ seen) (suc p) is
+
+    go : (a c : Bool) → verdictPlace rest ≤ 64 → verdictPlace (cond a (cond c rest (rules.refused (Repeated p))) (rules.refused (Unknown p))) ≤ 64
+    go true true more = more
+    go true false more = omega arith
+    go false c more = omega arith
+
+listing-near : (is : List ℕ) (rs : rules.Rows) → verdictPlace (rules.listing is rs) ≤ 64
+unfolding verdictPlace
+listing-near is rs = go (leb (length is) 64) refl
+  where
+    go : (t : Bool) → leb (length is) 64 ≡ t → verdictPlace (cond t (rules.scan rs [] 0 is) (rules.refused TooLong)) ≤ 64
+    go true e = scan-near rs [] 0 is (leb-true (length is) 64 e)
+    go false e = omega arith
+
+few-held : (d : BitDomain) → well d ≡ true → length (setOf d) ≤ 128
+few-held d w = omega (arith, size-ones (d .min) (d .mask), ones-le (width d) (val (d .mask)) (well-fits d w), well-width d w)
+
+yeses-le : (cs : List Closing) (b : Board) → yeses cs b ≤ length cs
+yeses-le [] b = omega arith
+yeses-le (c ∷ cs) b = go (isYes (closedBy c b .answer)) (yeses-le cs (closedBy c b .board))
+  where
+    n = yeses cs (closedBy c b .board)
+
+    go : (y : Bool) → n ≤ length cs → cond y (suc n) n ≤ suc (length cs)
+    go true h = omega arith
+    go false h = omega arith
+
+-- ---- calls that answer that they are done
+
+pub ranging-of : (id : ℕ) (min max : ℤ) (b : Board) → Of nothing (ranging id min max b .answer)
+ranging-of id min max b = entering (newOf true (chute min) (chute max)) id b
+
+pub listing-of : (id : ℕ) (values : List ℤ) (b : Board) → Of nothing (listing id values b .answer)
+listing-of id values b = entering (fromValuesOf values) id b
+
+pub resetting-of : (b : Board) → Of nothing (resetting b .answer)
+unfolding resetOf
+resetting-of b = go (wellBoard b)
+  where
+    go : (w : Bool) → Of nothing (outcomeOf (cond w (done (withRows b (b .rows) false)) (denied b Broken) .answer))
+    go true = done-of
+    go false = denied-of (omega arith)
+
+pub marking-of : (b : Board) → Of nothing (marking b .answer)
+unfolding markOf
+marking-of b = trying (wellBoard b) (ltb (b .marks) 8) (marked b) b TooDeep (omega arith)
+
+pub restoring-of : (b : Board) → Of nothing (restoring b .answer)
+unfolding restoreOf
+restoring-of b = trying (wellBoard b) (ltb 0 (b .marks)) (restored b) b NoMark (omega arith)
+
+pub keeping-of : (b : Board) → Of nothing (keeping b .answer)
+unfolding keepOf
+keeping-of b = trying (wellBoard b) (ltb 0 (b .marks)) (released b) b NoMark (omega arith)
+
+-- ---- yes or no
+
+pub closing-of : (k : rules.Kind) (id : ℕ) (v : ℤ) (b : Board) → Of yesNo (closing k id v b .answer)
+unfolding closeOf
+closing-of k id v b = go (wellBoard b) (ltb (seat b id) nowhere)
+  where
+    go : (w p : Bool) → Of yesNo (toldOf (cond w (cond p (closeAt k b v (seat b id)) (said b false)) (unsaid b Broken) .answer))
+    go true true = said-of (closes k b v (seat b id))
+    go true false = said-of false
+    go false p = denied-of (omega arith)
+
+pub assigned-of : (id : ℕ) (b : Board) → Of yesNo (whetherAssigned id b)
+unfolding isAssignedOf isFixedOf
+assigned-of id b = telling (wellBoard b) (well (domainOf b id)) (eqb (length (setOf (domainOf b id))) 1)
+
+pub inconsistent-of : (id : ℕ) (b : Board) → Of yesNo (whetherInconsistent id b)
+unfolding isInconsistentOf isEmptyOf
+inconsistent-of id b = telling (wellBoard b) (well (domainOf b id)) (not (some (setOf (domainOf b id))))
+
+pub changed-of : (b : Board) → Of yesNo (whetherChanged b)
+unfolding changedOf
+changed-of b = go (wellBoard b)
+  where
+    go : (w : Bool) → Of yesNo (toldOf (cond w (told.Is (b .changed)) (told.Refused Broken)))
+    go true = said-of (b .changed)
+    go false = denied-of (omega arith)
+
+-- ---- lists
+
+pub ready-of : (is : List ℕ) (b : Board) → Of yesNo (whetherReady is b)
+unfolding readyOf
+ready-of is b = go (wellBoard b) (rules.listing is (view b .now)) (listing-near is (view b .now)) (every (λ i. assigned (domainOf b i)) is)
+  where
+    go : (w : Bool) (v : rules.Verdict) → verdictPlace v ≤ 64 → (y : Bool) → Of yesNo (toldOf (cond w (judge v y) (told.Refused Broken)))
+    go true rules.accepted near y = said-of y
+    go true (rules.refused r) near y = denied-of (let z : placeOf r ≤ 64 = near in omega arith)
+    go false v near y = denied-of (omega arith)
+
+pub spreading-of : (is : List ℕ) (b : Board) → Of pair (spreading is b .answer)
+unfolding spreadOf prunedOf
+spreading-of is b = go (wellBoard b) (verdictOf (idAt (b .rows)) (b .count) is) (listing-near is (rowsFrom (idAt (b .rows)) (λ i. []) 0 (b .count)))
+  where
+    ps = map (seatIn (idAt (b .rows)) (b .count)) is
+
+    go : (w : Bool) (v : rules.Verdict) → verdictPlace v ≤ 64 → Of pair (pairOf (cond w (handed b (prunedBy v (b .rows) ps)) (refused b Broken) .answer))
+    go true rules.accepted near = pair-of (pass (map (λ p. setOf (domainAt (b .rows) p)) ps) .changed) (pass (map (λ p. setOf (domainAt (b .rows) p)) ps) .consistent)
+    go true (rules.refused r) near = denied-of (let z : placeOf r ≤ 64 = near in omega arith)
+    go false v near = denied-of (omega arith)
+
+-- ---- how many
+
+pub sizing-of : (id : ℕ) (b : Board) → Of number (sizing id b)
+unfolding domainSizeOf sizeOf
+sizing-of id b = go (wellBoard b) (well (domainOf b id)) refl
+  where
+    d = domainOf b id
+
+    go : (w v : Bool) → well d ≡ v → Of number (countOf (cond w (cond v (counted.Count (length (setOf d))) (counted.Refused Broken)) (counted.Refused Broken)))
+    go true true e = count-of (omega (arith, few-held d e))
+    go true false e = denied-of (omega arith)
+    go false v e = denied-of (omega arith)
+
+-- closings as many as a batch may have
+pub batching-of : (cs : List Closing) → length cs ≤ 256 → (b : Board) → Of number (batching cs b .answer)
+unfolding batchOf
+batching-of cs h b = go (wellBoard b)
+  where
+    go : (w : Bool) → Of number (countOf (cond w (record { board = closedAll cs b; answer = counted.Count (yeses cs b) }) (record { board = b; answer = counted.Refused Broken }) .answer))
+    go true = count-of (omega (arith, yeses-le cs b))
+    go false = denied-of (omega arith)

@@ -1,0 +1,30 @@
+-- `pirozhkan_bit::make::pirozhkan_bit_new` meets its contract. Assumes nothing.
+use mathlib.Core.Path.{ap, _∙_}
+use mathlib.Core.Bool.{true}
+use Rattle.domain.specs.declared.BitDomain.{BitDomain}
+use Rattle.offset.specs.Wide.{read32}
+use Rattle.pirozhkan_bit.specs.Lent.{begun}
+use Rattle.pirozhkan_bit.specs.Calls.{between}
+use borrow.Author.Needs.{needs}
+use Rattle.pirozhkan_bit.proofs.make.pirozhkan_bit_new.Statement.{statement}
+use Rattle.pirozhkan_bit.proofs.make.pirozhkan_bit_new.Tie as tie
+
+new-requires : tie.Need-new-requires
+new-requires c κs = search needs
+
+begin-requires : tie.Need-begin-requires
+begin-requires c κs = search needs
+
+same-length : tie.Need-same-length
+same-length c = search needs
+
+returns : tie.Need-returns
+returns c =
+    let b = c .before .before in
+    let n = b .before in
+    let s = n .before .before .before in
+    b .begin .ensures
+    ∙ ap (λ (d : BitDomain). begun d (s .args .ws .now)) (n .new .ensures ∙ λ t. between true (read32 (s .fits .min) t) (read32 (s .fits .max) t))
+
+pub pirozhkan-bit-new-spec : {M : Type 1} → statement M
+pirozhkan-bit-new-spec = tie.close (tie.spec new-requires begin-requires same-length returns)

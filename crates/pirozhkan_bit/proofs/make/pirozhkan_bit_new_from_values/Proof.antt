@@ -1,0 +1,26 @@
+-- `pirozhkan_bit::make::pirozhkan_bit_new_from_values` meets its contract. Assumes nothing.
+use mathlib.Core.Path.{ap, _∙_}
+use Rattle.domain.specs.declared.BitDomain.{BitDomain}
+use Rattle.pirozhkan_bit.specs.Lent.{begun}
+use borrow.Author.Needs.{needs}
+use Rattle.pirozhkan_bit.proofs.make.pirozhkan_bit_new_from_values.Statement.{statement}
+use Rattle.pirozhkan_bit.proofs.make.pirozhkan_bit_new_from_values.Tie as tie
+
+new-from-values-requires : tie.Need-new-from-values-requires
+new-from-values-requires c κs = search needs
+
+begin-requires : tie.Need-begin-requires
+begin-requires c κs = search needs
+
+same-length : tie.Need-same-length
+same-length c = search needs
+
+returns : tie.Need-returns
+returns c =
+    let b = c .before .before in
+    let n = b .before in
+    b .begin .ensures ∙ ap (λ (d : BitDomain). begun d (n .before .before .before .args .ws .now)) (n .new-from-values .ensures)
+
+pub pirozhkan-bit-new-from-values-spec : {M : Type 1} → statement M
+pirozhkan-bit-new-from-values-spec =
+    tie.close (tie.spec new-from-values-requires begin-requires same-length returns)

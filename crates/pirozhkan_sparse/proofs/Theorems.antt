@@ -1,0 +1,59 @@
+-- What is written is read back as the same state, every five cells are the writing of exactly one, and a refused call leaves every cell.
+-- Assumes nothing.
+use mathlib.Core.Path.{_≡_, sym, ap, _∙_}
+use mathlib.Core.List.{List, _∷_, _++_}
+use Prim.Native.Nat.{ℕ, _≤_, _<_, _^_}
+use native.Mathlib.Omega.{arith}
+use lib.ListN.{length, getD, drop}
+use lib.Seq.{drop-cons}
+use mir.Syntax.{w32}
+use mir.Val.{SFits}
+use Rattle.rules.specs.Board as rules
+use Rattle.rules.specs.declared.Refusal.{Refusal}
+use Rattle.sparse_inner.specs.Set.{Full}
+use Rattle.sparse_inner.specs.declared.Sparse.{Sparse}
+use Rattle.state.proofs.Halves.{half-back, chute-half}
+use Rattle.reply.specs.Told.{coded}
+use Rattle.reply.specs.Through.{left}
+use Rattle.pirozhkan_sparse.specs.Layout.{size, writtenOf, readOf}
+use Rattle.pirozhkan_sparse.specs.Lent.{Cells, cells, fullIn, put, Reply, written, through}
+use Rattle.pirozhkan_sparse.proofs.LentLaws.{through-done}
+
+-- ---- written, and read back
+
+pub read-back : (s : Sparse) (t : List ℕ) → SFits w32 (s .off) → readOf (writtenOf s ++ t) ≡ s
+unfolding readOf
+read-back s t f = λ i. record { off = half-back (s .off) f i; n = s .n; size = s .size; min = s .min; max = s .max }
+
+-- ---- read, and written back
+
+-- cells of 32 bits
+abbrev pub Small : List ℕ → Type 0
+Small cs = (i : ℕ) → getD cs i 0 < 2 ^ 32
+
+all-cells : (cs : List ℕ) → size ≤ length cs → getD cs 0 0 ∷ getD cs 1 0 ∷ getD cs 2 0 ∷ getD cs 3 0 ∷ getD cs 4 0 ∷ drop 5 cs ≡ cs
+all-cells cs h =
+    let next : ℕ → List ℕ → List ℕ = λ k r. getD cs k 0 ∷ r in
+    sym
+    (drop-cons cs 0 0 (omega arith)
+    ∙ ap (next 0)
+    (drop-cons cs 1 0 (omega arith)
+    ∙ ap (next 1) (drop-cons cs 2 0 (omega arith) ∙ ap (next 2) (drop-cons cs 3 0 (omega arith) ∙ ap (next 3) (drop-cons cs 4 0 (omega arith))))))
+
+pub written-back : (cs : List ℕ) → size ≤ length cs → Small cs → put (readOf cs) cs ≡ cs
+unfolding readOf
+written-back cs h fit =
+    (λ i. chute-half (getD cs 0 0) (fit 0) i ∷ getD cs 1 0 ∷ getD cs 2 0 ∷ getD cs 3 0 ∷ getD cs 4 0 ∷ drop 5 cs) ∙ all-cells cs h
+
+-- and are the writing of no other state
+pub only-one : (cs : List ℕ) (s : Sparse) → SFits w32 (s .off) → put s cs ≡ cs → s ≡ readOf cs
+only-one cs s f e = sym (read-back s (drop size cs) f) ∙ ap readOf e
+
+-- ---- a refused call, of a set that isn't well formed or of any other
+
+-- the by-value call left all as it came: so does the exported one
+pub refused-same : (f : Full → Reply) (c : Cells) (r : Refusal) → size ≤ length (c .state) → Small (c .state) → f (fullIn c) ≡ record { left = fullIn c; answer = rules.denied r } → through f c ≡ left (coded (rules.denied r)) c
+refused-same f c r h fit e =
+    sym (through-done f c h (f (fullIn c)) (λ _. f (fullIn c)) (coded (f (fullIn c) .answer)) (put (f (fullIn c) .left .set) (c .state)) (λ _. left (coded (f (fullIn c) .answer)) (put (f (fullIn c) .left .set) (c .state))))
+    ∙ ap (written c) e
+    ∙ ap (λ (cs : List ℕ). left (coded (rules.denied r)) (cells cs (c .ind) (c .val))) (written-back (c .state) h fit)

@@ -1,0 +1,35 @@
+-- `pirozhkan_sparse::ask::pirozhkan_sparse_max` meets its contract: it is the by-value call after reading. Assumes nothing.
+use mathlib.Core.Path.{ap, _∙_}
+use Rattle.sparse_inner.specs.Set.{full}
+use Rattle.pirozhkan_sparse.specs.Lent.{cells, valueOf}
+use Rattle.pirozhkan_sparse.specs.Calls.{largest}
+use Rattle.pirozhkan_sparse.proofs.LentLaws.{answered-few, answered-done}
+use borrow.Author.Needs.{needs}
+use Rattle.pirozhkan_sparse.proofs.ask.pirozhkan_sparse_max.Statement.{statement}
+use Rattle.pirozhkan_sparse.proofs.ask.pirozhkan_sparse_max.Tie as tie
+
+returns : tie.Need-returns
+returns c = let a = c .before .before .before .before .args in answered-few largest (cells (a .ws .now) (a .ind .now) (a .val .now)) (c .if1 .taken)
+
+read-requires : tie.Need-read-requires
+read-requires c κs = search needs
+
+max-requires : tie.Need-max-requires
+max-requires c κs = search needs
+
+found-requires : tie.Need-found-requires
+found-requires c κs = search needs
+
+returns-2 : tie.Need-returns-2
+returns-2 c =
+    let d = c .before in
+    let r = d .before in
+    let z = r .before in
+    let s = z .before .before .before .before in
+    let a = s .args in
+    c .found .ensures
+    ∙ answered-done largest (cells (a .ws .now) (a .ind .now) (a .val .now)) (z .if1 .left) (valueOf (d .max .result)) (ap valueOf (d .max .ensures) ∙ λ t. largest (full (r .read .ensures t) (a .ind .now) (a .val .now)))
+
+pub pirozhkan-sparse-max-spec : {M : Type 1} → statement M
+pirozhkan-sparse-max-spec =
+    tie.close (tie.spec returns read-requires max-requires found-requires returns-2)

@@ -1,0 +1,31 @@
+-- `pirozhkan_sparse::inner::counted` meets its contract, by its two cases. Assumes nothing.
+use mathlib.Core.Path.{sym, ap, _∙_}
+use Rattle.reply.specs.Told.{coded}
+use Rattle.sparse.specs.declared.Counted.{Counted}
+use Rattle.pirozhkan_sparse.specs.Lent.{countOf}
+use borrow.Author.Needs.{needs}
+use Rattle.pirozhkan_sparse.proofs.inner.counted.Statement.{statement}
+use Rattle.pirozhkan_sparse.proofs.inner.counted.Tie as tie
+
+enum-known-c : tie.Need-enum-known-c
+enum-known-c c = search needs
+
+refusal-requires : tie.Need-refusal-requires
+refusal-requires c κs = search needs
+
+enum-known-c-2 : tie.Need-enum-known-c-2
+enum-known-c-2 c = search needs
+
+count-requires : tie.Need-count-requires
+count-requires c κs = search needs
+
+returns : tie.Need-returns
+returns c = c .refusal .ensures ∙ ap (λ (x : Counted). coded (countOf x)) (sym (c .before .before .c .given .1))
+
+returns-2 : tie.Need-returns-2
+returns-2 c = c .count .ensures ∙ ap (λ (x : Counted). coded (countOf x)) (sym (c .before .before .c2 .given .1))
+
+pub counted-spec : {M : Type 1} → statement M
+counted-spec =
+    tie.close
+    (tie.spec enum-known-c refusal-requires enum-known-c-2 count-requires returns returns-2)

@@ -1,0 +1,27 @@
+-- `pirozhkan_sparse::inner::outcome` meets its contract, by its two cases. Assumes nothing.
+use mathlib.Core.Path.{sym, ap, _∙_}
+use Rattle.reply.specs.Told.{coded}
+use Rattle.sparse.specs.declared.Outcome.{Outcome}
+use Rattle.pirozhkan_sparse.specs.Lent.{outcomeOf}
+use borrow.Author.Needs.{needs}
+use Rattle.pirozhkan_sparse.proofs.inner.outcome.Statement.{statement}
+use Rattle.pirozhkan_sparse.proofs.inner.outcome.Tie as tie
+
+enum-known-o : tie.Need-enum-known-o
+enum-known-o c = search needs
+
+refusal-requires : tie.Need-refusal-requires
+refusal-requires c κs = search needs
+
+enum-told : tie.Need-enum-told
+enum-told c = search needs
+
+returns : tie.Need-returns
+returns c = c .refusal .ensures ∙ ap (λ (x : Outcome). coded (outcomeOf x)) (sym (c .before .before .o .given .1))
+
+returns-2 : tie.Need-returns-2
+unfolding coded
+returns-2 c = sym (ap (λ (x : Outcome). coded (outcomeOf x)) (c .enum-told .given .1))
+
+pub outcome-spec : {M : Type 1} → statement M
+outcome-spec = tie.close (tie.spec enum-known-o refusal-requires enum-told returns returns-2)
