@@ -187,7 +187,9 @@ uint64_t pirozhkan_sparse_union_with(uint32_t *state, size_t cells, uint32_t *in
                                      const uint32_t *other_val, size_t other_val_count);
 
 /* What to restore later goes into three cells: size, and the smallest and the largest held offset. Restored, it gives the saved members and
- * bounds, if since then only calls of this library touched the three runs, with no union and no restore to a larger size. */
+ * bounds, if since then only calls of this library touched the three runs, with no union and no restore to a larger size. A copy of the
+ * state's cells that is restored to (n, 0, n - 1), where n is the size of the universe, holds all of it: the held values first, then the
+ * others. */
 uint64_t pirozhkan_sparse_save_state(const uint32_t *state, size_t cells, const uint32_t *ind, size_t ind_count, const uint32_t *val,
                                      size_t val_count, uint32_t *saved, size_t count);
 uint64_t pirozhkan_sparse_restore_state(uint32_t *state, size_t cells, const uint32_t *ind, size_t ind_count, const uint32_t *val,

@@ -1,7 +1,8 @@
 /* What calls take through the binding, and a whole sheet in one call beside the by-value function.
  *
- * speed SHEET..: the calls on a full board, then each sheet's text made by pirozhkan_wave and by bench_wave, which is `wave::wave` behind an
- * exported function, in turn, so that both meet the same load; each time is the least of many runs.
+ * speed: the calls on a full board; each time is the least of many runs.
+ * speed SHEET..: each sheet's text made by pirozhkan_wave and by bench_wave, which is `wave::wave` behind an exported function, in turn, so
+ * that both meet the same load: the sheet, its bytes, and both least times.
  * speed binding|value SHEET CALLS: one side alone, for a count of instructions. */
 #include "pirozhkan.h"
 #include <stdio.h>
@@ -95,13 +96,13 @@ static double value(size_t bytes, int count) {
 static void beside(const char *name) {
     size_t bytes = sheet(name);
     double ours = 1e18, theirs = 1e18;
-    for (int run = 0; run < 2000; run++) {
+    for (int run = 0; run < 500; run++) {
         double a = binding(bytes, 5), b = value(bytes, 5);
         if (a < ours) ours = a;
         if (b < theirs) theirs = b;
     }
     need(memcmp(out, other, sizeof out) == 0, "the texts differ");
-    printf("%-30s %6zu bytes  pirozhkan_wave %8.0f ns  wave::wave %8.0f ns  ratio %.3f\n", name, bytes, ours, theirs, ours / theirs);
+    printf("%s %zu %.0f %.0f\n", name, bytes, ours, theirs);
 }
 
 int main(int words, char **word) {

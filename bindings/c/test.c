@@ -123,6 +123,9 @@ static void sparse_cases(void) {
     EXPECT(s.ind[6] == 0x5a5a5a5a && s.val[6] == 0x5a5a5a5a);
     EXPECT(pirozhkan_counted(pirozhkan_sparse_values(SET(s), out, 16)).count == 3 && out[0] == 1 && out[1] == 6 && out[2] == 3);
     EXPECT(pirozhkan_sparse_values(SET(s), out, 2) == PIROZHKAN_NO_ROOM);
+    t = s;
+    EXPECT(pirozhkan_sparse_restore_state(SET(t), 6, 0, 5) == 0);
+    EXPECT(pirozhkan_counted(pirozhkan_sparse_values(SET(t), out, 16)).count == 6 && out[3] == 5 && out[4] == 4 && out[5] == 2);
     EXPECT(pirozhkan_told(pirozhkan_sparse_contains(SET(s), 6)).is && !pirozhkan_told(pirozhkan_sparse_contains(SET(s), 5)).is);
 
     EXPECT(pirozhkan_sparse_new(SET(s), 3, 0) == 0);
@@ -177,7 +180,7 @@ static void sparse_cases(void) {
     EXPECT(sets > 0 && refused > 0);
 }
 
-/* Boards, 7 to 11. */
+/* Boards, 7 to 11, and one that the paper leaves out. */
 static void board_cases(void) {
     const uint32_t list[] = {1, 2, 3, 4, 5, 6, 7};
     pirozhkan_new(state, W);
@@ -204,6 +207,18 @@ static void board_cases(void) {
         EXPECT(pair_is(pirozhkan_propagate_alldiff(state, W, list, n), n == 6, true));
         for (uint32_t i = 3; i <= n; i++) EXPECT(holds_range(i, n == 6 ? 3 : 1, 9));
     }
+
+    /* one more: the second is assigned only as step 1 runs, so the third keeps 2 */
+    pirozhkan_new(state, W);
+    add(1, 1, 1);
+    add(2, 1, 2);
+    add(3, 2, 3);
+    for (uint32_t i = 4; i <= 7; i++) add(i, 1, 9);
+    EXPECT(pirozhkan_reset_changed_flag(state, W) == 0);
+    EXPECT(pair_is(pirozhkan_propagate_alldiff(state, W, list, 7), true, true));
+    EXPECT(holds_range(1, 1, 1) && holds_range(2, 2, 2) && holds_range(3, 2, 3));
+    for (uint32_t i = 4; i <= 7; i++) EXPECT(holds_range(i, 2, 9));
+    EXPECT(pirozhkan_told(pirozhkan_domains_changed(state, W)).is);
 }
 
 static void questions(void) {

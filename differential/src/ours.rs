@@ -1,13 +1,16 @@
 //! Our side: the proved calls, linked into this process or behind a pipe.
 
 use std::io::{Read, Write};
-use std::process::{Child, Command, Stdio};
+use std::process::Child;
+#[cfg(not(feature = "linked"))]
+use std::process::{Command, Stdio};
 
 #[cfg(feature = "linked")]
 pub type Call = unsafe extern "C" fn(*const u8, usize, *mut u8, usize) -> usize;
 
 /// What reaches one part's calls: the program behind the pipe, or the function that it is built on, with the room that its answers to a frame need.
 pub struct Part {
+    #[cfg_attr(feature = "linked", allow(dead_code))]
     pub program: &'static str,
     #[cfg_attr(not(feature = "linked"), allow(dead_code))]
     pub room: usize,
@@ -18,18 +21,63 @@ pub struct Part {
 pub enum Ours {
     #[cfg(feature = "linked")]
     Linked(Call, usize),
+    #[cfg_attr(feature = "linked", allow(dead_code))]
     Pipe(Child),
 }
 
+/// How many bytes stand before and past those that a linked call is lent, and what they hold.
+#[cfg(feature = "linked")]
+const GUARD: (usize, u8) = (64, 0xC3);
+
+/// What a linked call answers, and what it made of the lent bytes; nothing if it wrote a byte before or past them.
+#[cfg(feature = "linked")]
+pub fn guarded(call: Call, input: &[u8], lent: &mut [u8]) -> Option<usize> {
+    let (many, byte) = GUARD;
+    let end = many + lent.len();
+    let mut out = vec![byte; end + many];
+    out[many..end].copy_from_slice(lent);
+    let n = unsafe { call(input.as_ptr(), input.len(), out[many..end].as_mut_ptr(), lent.len()) };
+    lent.copy_from_slice(&out[many..end]);
+    let kept = out[..many].iter().chain(&out[end..]).all(|b| *b == byte);
+    (kept && n <= lent.len()).then_some(n)
+}
+
+/// Calls that write a byte outside what they are lent are found, and one that doesn't isn't.
+#[cfg(feature = "linked")]
+pub fn guard_finds() -> bool {
+    unsafe extern "C" fn within(_: *const u8, _: usize, out: *mut u8, len: usize) -> usize {
+        unsafe { *out.add(len - 1) = 0 };
+        len
+    }
+    unsafe extern "C" fn before(_: *const u8, _: usize, out: *mut u8, len: usize) -> usize {
+        unsafe { *out.sub(1) = 0 };
+        len
+    }
+    unsafe extern "C" fn past(_: *const u8, _: usize, out: *mut u8, len: usize) -> usize {
+        unsafe { *out.add(len) = 0 };
+        len
+    }
+    let kept = |call: Call| guarded(call, &[], &mut [1; 8]).is_some();
+    let good = kept(within) && !kept(before) && !kept(past);
+    println!("differential: faults made on purpose, a byte written before the lent ones and one past them, {}", if good { "are found" } else { "ARE NOT FOUND" });
+    good
+}
+
+#[cfg(not(feature = "linked"))]
+pub fn guard_finds() -> bool {
+    true
+}
+
 impl Ours {
-    /// Linked where this was built so; else the part's program in the folder PROBE_BIN, behind the words of PROBE_RUN if those are needed to run it.
+    #[cfg(feature = "linked")]
     pub fn start(part: &Part) -> Ours {
-        let Some(folder) = std::env::var_os("PROBE_BIN") else {
-            #[cfg(feature = "linked")]
-            return Ours::Linked(part.linked, part.room);
-            #[cfg(not(feature = "linked"))]
-            panic!("PROBE_BIN names the folder of the programs");
-        };
+        Ours::Linked(part.linked, part.room)
+    }
+
+    /// The part's program in the folder PROBE_BIN, behind the words of PROBE_RUN if those are needed to run it.
+    #[cfg(not(feature = "linked"))]
+    pub fn start(part: &Part) -> Ours {
+        let folder = std::env::var_os("PROBE_BIN").expect("PROBE_BIN names the folder of the programs");
         let program = std::path::Path::new(&folder).join(part.program);
         let line = std::env::var("PROBE_RUN").unwrap_or_default();
         let mut words: Vec<std::ffi::OsString> = line.split_whitespace().map(Into::into).collect();
@@ -56,12 +104,11 @@ impl Ours {
         match self {
             #[cfg(feature = "linked")]
             Ours::Linked(call, room) => {
-                let mut out = vec![0u8; *room];
-                let n = unsafe { call(frame.as_ptr(), frame.len(), out.as_mut_ptr(), out.len()) };
-                assert!(n <= out.len());
-                out.truncate(n);
                 let _ = size;
-                out
+                let mut lent = vec![0u8; *room];
+                let n = guarded(*call, frame, &mut lent).expect("no byte outside the lent ones is written");
+                lent.truncate(n);
+                lent
             }
             Ours::Pipe(child) => {
                 child.stdin.as_mut().unwrap().write_all(frame).expect("the program behind the pipe reads");

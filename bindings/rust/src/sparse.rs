@@ -141,6 +141,18 @@ impl<'a> Sparse<'a> {
         Ok(cells)
     }
 
+    /// The values of the universe that aren't held, in the set's own order.
+    pub fn complement(&self) -> Result<Vec<Value>, Refusal> {
+        let size = self.size()?;
+        // a copy of the state that holds the whole universe: its values are the held ones, then the others
+        let mut state = self.state[..SPARSE_CELLS].to_vec();
+        let n = state[1];
+        done(calls::restore_state(&mut state, self.ind, self.val, [n, 0, n.saturating_sub(1)]))?;
+        let mut cells = vec![Value(0); n as usize];
+        counted(calls::values(&state, self.ind, self.val, &mut cells))?;
+        Ok(cells[size..].to_vec())
+    }
+
     /// `[1,6,3|5,4,2]`: the held values, and the others of the universe.
     pub fn text(&self) -> Result<String, Refusal> {
         // a value takes at most 11 bytes, and a comma or the bar beside it

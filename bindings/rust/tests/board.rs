@@ -53,6 +53,20 @@ fn cases_7_to_11() {
     }
 }
 
+// The second is assigned only as step 1 runs, so the third keeps 2.
+#[test]
+fn newly_assigned_ids_do_not_join_step_1() {
+    let mut words = [0; WORDS];
+    let mut board = board_of(&mut words, &[(1, 1), (1, 2), (2, 3), (1, 9), (1, 9), (1, 9), (1, 9)]);
+    board.reset_changed_flag().unwrap();
+    assert_eq!(board.propagate_alldiff(&ids(7)), pair(true, true));
+    assert_eq!((held(&board, 1), held(&board, 2), held(&board, 3)), (values(1, 1), values(2, 2), values(2, 3)));
+    for id in 4..=7 {
+        assert_eq!(held(&board, id), values(2, 9));
+    }
+    assert_eq!(board.domains_changed(), Ok(true));
+}
+
 #[test]
 fn questions() {
     let mut words = [0; WORDS];

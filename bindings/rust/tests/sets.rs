@@ -69,7 +69,7 @@ fn cases_4_to_6() {
     let mut lent = Lent::blank();
     let set = lent.of(&[1, 3, 6]);
     assert_eq!(set.text().as_deref(), Ok("[1,6,3|5,4,2]"));
-    assert_eq!(set.values(), Ok(values(&[1, 6, 3])));
+    assert_eq!((set.values(), set.complement()), (Ok(values(&[1, 6, 3])), Ok(values(&[5, 4, 2]))));
     assert_eq!((lent.state[5], lent.ind[6], lent.val[6]), (7, 7, 7));
 
     let mut set = lent.range(3, 0);

@@ -1,5 +1,5 @@
 -- Where a number stands among the first n, and which of them differ.
-use mathlib.Core.Path.{_≡_, refl, sym, ap, _∙_}
+use mathlib.Core.Path.{_≡_, refl, sym, ap, _∙_, subst}
 use mathlib.Core.Bool.{Bool, true, false, not, cond}
 use mathlib.Core.List.{List}
 use mathlib.Core.Logic.{_⊎_, inl, inr, ⊎-elim}
@@ -41,6 +41,23 @@ module _ (id : ℕ → ℕ) where
 
   pub says-differ : (n : ℕ) → ((i j : ℕ) → i < n → j < n → id i ≡ id j → i ≡ j) → differ id n ≡ true
   says-differ n h = all (λ i. newTo id i (id i)) n (λ i l. says-new i (id i) (λ j m e. let z : j ≡ i = h j i (omega arith) l e in omega arith))
+
+  -- each larger than the one before
+  module _ (n : ℕ) (rises : (k : ℕ) → suc k < n → id k < id (suc k)) where
+    below : (i j : ℕ) → i < j → j < n → id i < id j
+    below i zero h l = absurd (not-suc-le-zero h)
+    below i (suc j) h l = ⊎-elim (λ (e : i ≡ j). subst (λ (k : ℕ). id k < id (suc j)) (sym e) (rises j l)) (λ m. omega (arith, below i j m (omega arith), rises j l)) (eq-or-lt-of-le (le-of-suc-le-suc h))
+
+    pub rise-differ : differ id n ≡ true
+    rise-differ = says-differ n one
+      where
+        one : (i j : ℕ) → i < n → j < n → id i ≡ id j → i ≡ j
+        one i j p q e = go (ℕ-discrete i j) (ltb i j) refl
+          where
+            go : Dec (i ≡ j) → (b : Bool) → ltb i j ≡ b → i ≡ j
+            go (yes r) b t = r
+            go (no r) true t = absurd (omega (arith, below i j (ltb-true i j t) q))
+            go (no r) false t = let l : j < i = omega (arith, ltb-false i j t) in absurd (omega (arith, below j i l p))
 
   -- ---- seats
 

@@ -1,11 +1,17 @@
 -- What it says that a board is well formed, clause by clause, and what shows it.
-use mathlib.Core.Path.{_≡_, refl}
-use mathlib.Core.Bool.{Bool, true, false, _&&_}
+use mathlib.Core.Path.{_≡_, refl, sym, ap, _∙_, subst}
+use mathlib.Core.Bool.{Bool, true, false, _&&_, cond}
 use mathlib.Core.List.{List}
-use Prim.Native.Nat.{ℕ, _<_, _≤_}
-use lib.Dec.{leb}
-use borrow.Author.Tests.{leb-true, le-leb, lt-leb}
-use Rattle.domain.specs.Set.{well, width}
+use Prim.Native.Nat.{ℕ, _^_, _<_, _≤_}
+use lib.Arith.{lt-one}
+use lib.Dec.{eqb, leb, ltb}
+use lib.Pow.{pow-pos}
+use borrow.Author.Tests.{eqb-true, leb-true, le-leb, lt-leb}
+use Rattle.mask.specs.Val.{val, offsets}
+use Rattle.mask.specs.Tests.{eqb-ltb-iff}
+use Rattle.offset.specs.Places.{spanOf}
+use Rattle.domain.specs.Set.{pair, well, width}
+use Rattle.domain.specs.declared.BitDomain.{BitDomain}
 use Rattle.saved.specs.Saved.{fitUnder}
 use Rattle.saved.proofs.UptoLaws.{all, each, one-fails}
 use Rattle.board.specs.Rows.{idAt, domainAt, seatIn}
@@ -25,6 +31,32 @@ fails-left a b e = rw e
 fails-right : (a b : Bool) → b ≡ false → a && b ≡ false
 fails-right true b e = e
 fails-right false b e = refl
+
+-- ---- a row
+
+none-below : (x w : ℕ) → w ≡ 0 → eqb x 0 ≡ ltb x (2 ^ w)
+none-below x w z = eqb-ltb-iff x 0 x (2 ^ w) (λ q. subst (λ (y : ℕ). y < 2 ^ w) (sym q) (pow-pos w)) (λ l. lt-one (subst (λ (v : ℕ). x < 2 ^ v) z l))
+
+and-assoc : (a b c : Bool) → a && (b && c) ≡ (a && b) && c
+and-assoc true b c = refl
+and-assoc false b c = refl
+
+-- the test of a domain, for a mask y that is below a limit exactly if x is and f holds
+test-joined : (p : Bool) (w x y : ℕ) (f : Bool) → ltb y (2 ^ w) ≡ ltb x (2 ^ w) && f → cond (eqb w 0) (p && eqb y 0) (leb w offsets && ltb y (2 ^ w)) ≡ cond (eqb w 0) (p && eqb x 0) (leb w offsets && ltb x (2 ^ w)) && f
+test-joined p w x y f e = go (eqb w 0) refl
+  where
+    go : (b : Bool) → eqb w 0 ≡ b → cond b (p && eqb y 0) (leb w offsets && ltb y (2 ^ w)) ≡ cond b (p && eqb x 0) (leb w offsets && ltb x (2 ^ w)) && f
+    go true z =
+        let v = eqb-true w 0 z in
+        ap (λ (b : Bool). p && b) (none-below y w v ∙ e ∙ ap (λ (b : Bool). b && f) (sym (none-below x w v))) ∙ and-assoc p (eqb x 0) f
+    go false z = ap (λ (b : Bool). leb w offsets && b) e ∙ and-assoc (leb w offsets) (ltb x (2 ^ w)) f
+
+-- all masks of a row together, as the mask of its domain: well formed exactly if its own mask is, and the others fit the universe
+pub well-joined : (d e : BitDomain) → e .min ≡ d .min → e .max ≡ d .max → (fit : ℕ → Bool) → ((k : ℕ) → ltb (val (e .mask)) (2 ^ k) ≡ ltb (val (d .mask)) (2 ^ k) && fit k) → well e ≡ well d && fit (width d)
+unfolding well
+well-joined d e low high fit joined =
+    (λ i. cond (eqb (spanOf (low i) (high i)) 0) (pair (low i) (high i) && eqb (val (e .mask)) 0) (leb (spanOf (low i) (high i)) offsets && ltb (val (e .mask)) (2 ^ spanOf (low i) (high i))))
+    ∙ test-joined (pair (d .min) (d .max)) (width d) (val (d .mask)) (val (e .mask)) (fit (width d)) (joined (width d))
 
 -- what a well-formed board has
 pub record Sound (rows : List Row) (count : ℕ) (ws : List ℕ) (marks : ℕ) : Type 0 where

@@ -82,15 +82,38 @@ fn distinct(ids: &[u32; 64], count: usize) -> bool
     true
 }
 
-// Whether a row's domain is well formed, and every mask saved for it fits its universe.
+// Whether each of the first `count` numbers is larger than the one before: then they differ. Nothing ends it early.
+fn rise(ids: &[u32; 64], count: usize) -> bool
+    requires { ⌜ count ≤ 64 ⌝ }
+    ensures { λ r. ⌜ (r ≡ true → differ (λ j. getD (now (ids .entry)) j 0) count ≡ true) ⌝ }
+{
+    let mut so = true;
+    let mut i = 0;
+    while i + 1 < count {
+        so = so & (ids[i] < ids[i + 1]);
+        i += 1;
+    }
+    so
+}
+
+// Whether the first `count` ids differ, which mostly rise.
+fn apart(ids: &[u32; 64], count: usize) -> bool
+    requires { ⌜ count ≤ 64 ⌝ }
+    ensures { λ r. ⌜ r ≡ differ (λ j. getD (now (ids .entry)) j 0) count ⌝ }
+{
+    if rise(ids, count) {
+        return true;
+    }
+    distinct(ids, count)
+}
+
+// Whether a row's domain is well formed, and every mask saved for it fits its universe: all of them together have to fit it.
 fn is_well_row(d: BitDomain, ws: &Saved, marks: usize, i: usize) -> bool
     requires { ⌜ (marks ≤ 8) × (i < 64) ⌝ }
     ensures { λ r. ⌜ r ≡ wellRow (now (ws .entry)) marks i d ⌝ }
 {
-    if !domain::inner::is_well(d) {
-        return false;
-    }
-    saved::fit(ws, marks, i, domain::inner::width(d))
+    let joined = saved::join(ws, marks, i, d.mask);
+    domain::inner::is_well(domain::inner::with_mask(d, joined))
 }
 
 // The one check of a board: whether it is well formed, and in which row an id stands.
@@ -118,7 +141,7 @@ pub fn look(rows: [Row; 64], count: usize, ws: &Saved, marks: usize, id: Variabl
         }
         i += 1;
     }
-    if !distinct(&ids, count) {
+    if !apart(&ids, count) {
         return BROKEN;
     }
     at

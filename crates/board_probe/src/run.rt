@@ -2,9 +2,9 @@
 ghost use mathlib.Core.Path.{_≡_};
 ghost use Prim.Native.Nat.{_+_, _<_, _≤_};
 ghost use lib.ListN.{length};
-use super::calls;
-use super::calls::Turn;
-use super::walks;
+use super::asks;
+use super::changes;
+use super::changes::Turn;
 use board::Board;
 use board_probe_parts::lent;
 use board_probe_parts::raw;
@@ -13,67 +13,35 @@ use board_probe_parts::show;
 use probe_parts::record;
 use probe_parts::record::Record;
 use probe_parts::regs;
+use probe_parts::regs::Register;
 use probe_parts::reply;
-use probe_parts::reply::Left;
-use rules::Value;
 
 // The most bytes that a record's answer takes, with the whole board behind it.
 const MOST: usize = 10328;
 
-fn clear(regs: &mut [u64; 256]) {
-    let mut i = 0;
-    while i < regs::WORDS {
-        regs[i] = 0;
-        i += 1;
+fn asks(op: u64) -> bool {
+    match op {
+        29 | 32 | 33 | 34 | 35 | 36 | 37 | 38 | 40 | 41 | 43 | 44 => true,
+        _ => false,
     }
-}
-
-// The calls that are given a list: a part of the run of ids.
-fn on_list(r: Record, b: Board, ids: &[u32]) -> Turn {
-    let span = parts::part(r);
-    let start = span.start;
-    let end = span.end;
-    if ids.len() < end {
-        return calls::after(b, reply::none());
-    }
-    calls::on_list(r.op, b, &ids[start..end])
 }
 
 // The calls that are lent no cells.
 fn call(r: Record, b: Board, regs: &mut [u64; 256], ids: &[u32; 224]) -> Turn
     requires { ⌜ (r .a < 8) × (r .b < 8) ⌝ }
 {
-    let op = r.op;
-    if op < 16 {
-        return calls::after(raw::set(r, b), reply::none());
+    if asks(r.op) {
+        return changes::after(b, asks::run(r, b, regs, ids));
     }
-    if op < 24 {
-        return walks::enter(r, b, regs);
-    }
-    if op < 32 {
-        return calls::close(op, b, raw::id(r), Value(r.v));
-    }
-    if op < 37 {
-        return calls::after(b, calls::ask(op, b, raw::id(r)));
-    }
-    if op < 40 {
-        return calls::after(b, walks::chutes(r, b, regs));
-    }
-    if op < 44 {
-        return calls::after(b, walks::ids(r, b, regs));
-    }
-    if op < 52 {
-        return on_list(r, b, ids);
-    }
-    calls::try_out(op, b)
+    changes::run(r, b, regs, ids)
 }
 
 // The records that only set registers show no board.
-fn set(r: Record, regs: &mut [u64; 256], ids: &mut [u32; 224]) -> Left {
+fn set(r: Record, regs: &mut [u64; 256], ids: &mut [u32; 224]) -> Register {
     let op = r.op;
     match op {
         0 => {
-            clear(regs);
+            regs::clear(regs);
             parts::clear(ids);
         }
         1 => {
@@ -83,7 +51,7 @@ fn set(r: Record, regs: &mut [u64; 256], ids: &mut [u32; 224]) -> Left {
             regs::put_values(regs, r.n, r.lo, r.hi);
         }
     }
-    Left {
+    Register {
         lo: 0,
         hi: 0,
         bounds: 0,

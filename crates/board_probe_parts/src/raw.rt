@@ -5,7 +5,6 @@ use domain::BitDomain;
 use mask::Mask;
 use probe_parts::record::Record;
 use rules::Variable;
-use saved::Saved;
 ghost use Prim.Native.Nat.{_<_};
 
 // The id that a record names.
@@ -27,31 +26,15 @@ fn row(r: Record) -> Row {
 fn with_row(b: Board, r: Record) -> Board
     requires { ⌜ (r .a < 8) × (r .b < 8) ⌝ }
 {
-    let mut rows = b.rows;
-    let at = 8 * r.a + r.b;
-    rows[at] = row(r);
-    let saved = b.saved;
-    Board {
-        rows,
-        count: b.count,
-        saved,
-        marks: b.marks,
-        changed: b.changed,
-    }
+    let mut next = b;
+    next.rows[8 * r.a + r.b] = row(r);
+    next
 }
 
 fn with_word(b: Board, r: Record) -> Board {
-    let rows = b.rows;
-    let mut saved = b.saved;
-    let at = r.n % 1024;
-    saved[at] = r.lo;
-    Board {
-        rows,
-        count: b.count,
-        saved,
-        marks: b.marks,
-        changed: b.changed,
-    }
+    let mut next = b;
+    next.saved[r.n % 1024] = r.lo;
+    next
 }
 
 // A row, a saved word, the count, the marks, or the flag.

@@ -1,19 +1,12 @@
-// The run of ids that lists are parts of, and the listed values.
-ghost use mathlib.Core.Path.{_≡_};
+// The run of ids that lists are parts of.
 ghost use Prim.Native.Nat.{_≤_};
-ghost use lib.ListN.{length};
 use probe_parts::record::Record;
-use probe_parts::regs;
 
 // How many ids the run has.
 pub const IDS: usize = 224;
 
 pub fn clear(ids: &mut [u32; 224]) {
-    let mut i = 0;
-    while i < IDS {
-        ids[i] = 0;
-        i += 1;
-    }
+    *ids = [0u32; 224];
 }
 
 fn half(w: u64) -> u32 {
@@ -46,18 +39,4 @@ pub fn part(r: Record) -> Span
         start,
         end: start + many,
     }
-}
-
-// The listed values as they stand in the registers.
-pub fn values(regs: &[u64; 256]) -> [i32; 160]
-    ensures { λ r. ⌜ length r ≡ 160 ⌝ }
-{
-    let mut values = [0i32; 160];
-    let mut i = 0;
-    while i < regs::LISTED {
-        let v = regs::value(regs, i);
-        values[i] = v;
-        i += 1;
-    }
-    values
 }

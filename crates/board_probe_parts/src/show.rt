@@ -5,9 +5,8 @@ ghost use Prim.Native.Nat.{_+_, _≤_};
 ghost use lib.ListN.{length};
 use board::Board;
 use board::Row;
-use domain::BitDomain;
-use probe_parts::reply;
-use probe_parts::reply::Left;
+use probe_parts::regs;
+use probe_parts::regs::Register;
 use probe_parts::wire;
 use saved::Saved;
 
@@ -21,14 +20,10 @@ fn mixed(h: u64, w: u64) -> u64 {
     sum ^ (sum >> 29)
 }
 
-fn bounds(d: BitDomain) -> u64 {
-    wire::bits(d.min) | (wire::bits(d.max) << 32)
-}
-
 fn of_row(h: u64, row: Row) -> u64 {
     let d = row.domain;
     let masked = mixed(mixed(h, d.mask.lo), d.mask.hi);
-    mixed(mixed(masked, bounds(d)), row.id.0 as u64)
+    mixed(mixed(masked, regs::bounds(d)), row.id.0 as u64)
 }
 
 fn of_rows(rows: [Row; 64]) -> u64 {
@@ -68,8 +63,8 @@ fn digest(b: Board) -> u64 {
 }
 
 // The board after a call: the number over it, its count, and its open marks with the flag as the highest bit.
-pub fn left(b: Board) -> Left {
-    Left {
+pub fn left(b: Board) -> Register {
+    Register {
         lo: digest(b),
         hi: b.count as u64,
         bounds: b.marks as u64 | (flag(b) << 63),
@@ -81,7 +76,11 @@ fn put_row(row: Row, out: &mut [u8], at: usize)
     ensures { λ _. ⌜ length (now (out .exit)) ≡ length (now (out .entry)) ⌝ }
 {
     let d = row.domain;
-    reply::put_four(out, at, d.mask.lo, d.mask.hi, bounds(d), row.id.0 as u64);
+    wire::put_words(
+        &[d.mask.lo, d.mask.hi, regs::bounds(d), row.id.0 as u64],
+        out,
+        at,
+    );
 }
 
 fn put_rows(rows: [Row; 64], out: &mut [u8], at: usize)
@@ -96,18 +95,6 @@ fn put_rows(rows: [Row; 64], out: &mut [u8], at: usize)
     }
 }
 
-fn put_words(ws: &Saved, out: &mut [u8], at: usize)
-    requires { ⌜ at + 8192 ≤ length (now out) ⌝ }
-    ensures { λ _. ⌜ length (now (out .exit)) ≡ length (now (out .entry)) ⌝ }
-{
-    let mut i = 0;
-    while i < 1024 {
-        let w = ws[i];
-        wire::put_word(out, at + 8 * i, w);
-        i += 1;
-    }
-}
-
 // The rows, a mask, bounds and id each; the saved words; the count, the marks and the flag.
 pub fn dump(b: Board, out: &mut [u8], at: usize)
     requires { ⌜ at + 10264 ≤ length (now out) ⌝ }
@@ -116,8 +103,6 @@ pub fn dump(b: Board, out: &mut [u8], at: usize)
     let rows = b.rows;
     let saved = b.saved;
     put_rows(rows, out, at);
-    put_words(&saved, out, at + 2048);
-    wire::put_word(out, at + 10240, b.count as u64);
-    wire::put_word(out, at + 10248, b.marks as u64);
-    wire::put_word(out, at + 10256, flag(b));
+    wire::put_words(&saved, out, at + 2048);
+    wire::put_words(&[b.count as u64, b.marks as u64, flag(b)], out, at + 10240);
 }

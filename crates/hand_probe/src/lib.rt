@@ -7,13 +7,17 @@ ghost use Prim.Native.Nat.{_+_, _*_, _<_, _≤_};
 ghost use lib.ListN.{length};
 use batch::Batched;
 use board::Board;
+use board::Row;
 use closing::Closing;
 use closing::Kind;
 use domain::BitDomain;
+use domain::Changed;
 use domain::Counted;
+use domain::Narrowed;
 use domain::Outcome;
 use domain::Told;
-use mask::Mask;
+use probe_parts::regs;
+use probe_parts::regs::Register;
 use probe_parts::wire;
 use rules::Value;
 use rules::Variable;
@@ -62,87 +66,58 @@ fn counted(c: Counted) -> u64 {
 
 // What a call left behind the reference, and its answer as a number.
 struct After {
-    domain: BitDomain,
+    left: Register,
     answer: u64,
 }
 
-fn narrowed(op: u64, d: BitDomain, v: Value) -> After {
-    if op == 2 {
-        let r = domain_in_place::remove_all_but_here(d, v);
-        let e = r.domain;
-        let a = r.answer;
-        return After {
-            domain: e,
-            answer: outcome(a),
-        };
-    }
-    if op == 3 {
-        let r = domain_in_place::remove_below_here(d, v);
-        let e = r.domain;
-        let a = r.answer;
-        return After {
-            domain: e,
-            answer: outcome(a),
-        };
-    }
-    let r = domain_in_place::remove_above_here(d, v);
-    let e = r.domain;
-    let a = r.answer;
-    After {
-        domain: e,
-        answer: outcome(a),
-    }
-}
-
-fn changed(op: u64, d: BitDomain, v: Value) -> After {
+fn changed(op: u64, d: BitDomain, v: Value) -> Changed {
     if op == 0 {
-        let r = domain_in_place::remove_here(d, v);
-        let e = r.domain;
-        let a = r.answer;
-        return After {
-            domain: e,
-            answer: told(a),
-        };
+        return domain_in_place::remove_here(d, v);
     }
-    if op == 1 {
-        let r = domain_in_place::insert_here(d, v);
-        let e = r.domain;
-        let a = r.answer;
-        return After {
-            domain: e,
-            answer: told(a),
-        };
-    }
-    narrowed(op, d, v)
+    domain_in_place::insert_here(d, v)
 }
 
-fn domain_at(script: &[u8], at: usize) -> BitDomain
+fn narrowed(op: u64, d: BitDomain, v: Value) -> Narrowed {
+    match op {
+        2 => domain_in_place::remove_all_but_here(d, v),
+        3 => domain_in_place::remove_below_here(d, v),
+        _ => domain_in_place::remove_above_here(d, v),
+    }
+}
+
+fn after_change(c: Changed) -> After {
+    let d = c.domain;
+    let t = c.answer;
+    After {
+        left: regs::of_domain(d),
+        answer: told(t),
+    }
+}
+
+fn after_cut(n: Narrowed) -> After {
+    let d = n.domain;
+    let o = n.answer;
+    After {
+        left: regs::of_domain(d),
+        answer: outcome(o),
+    }
+}
+
+fn called(op: u64, d: BitDomain, v: Value) -> After {
+    if op < 2 {
+        return after_change(changed(op, d, v));
+    }
+    after_cut(narrowed(op, d, v))
+}
+
+fn register_at(script: &[u8], at: usize) -> Register
     requires { ⌜ at + 24 ≤ length (now script) ⌝ }
 {
-    let lo = wire::word(script, at);
-    let hi = wire::word(script, at + 8);
-    let bounds = wire::word(script, at + 16);
-    BitDomain {
-        mask: Mask { lo, hi },
-        min: wire::signed(bounds),
-        max: wire::signed(bounds / 4294967296),
+    Register {
+        lo: wire::word(script, at),
+        hi: wire::word(script, at + 8),
+        bounds: wire::word(script, at + 16),
     }
-}
-
-fn ends(d: BitDomain) -> u64 {
-    wire::bits(d.min) ^ (wire::bits(d.max) << 32)
-}
-
-fn put_after(r: After, out: &mut [u8], to: usize)
-    requires { ⌜ to + 32 ≤ length (now out) ⌝ }
-    ensures { λ _. ⌜ length (now (out .exit)) ≡ length (now (out .entry)) ⌝ }
-{
-    let e = r.domain;
-    let m = e.mask;
-    wire::put_word(out, to, r.answer);
-    wire::put_word(out, to + 8, m.lo);
-    wire::put_word(out, to + 16, m.hi);
-    wire::put_word(out, to + 24, ends(e));
 }
 
 fn step(script: &[u8], at: usize, out: &mut [u8], to: usize)
@@ -150,9 +125,9 @@ fn step(script: &[u8], at: usize, out: &mut [u8], to: usize)
     ensures { λ _. ⌜ length (now (out .exit)) ≡ length (now (out .entry)) ⌝ }
 {
     let head = wire::word(script, at);
-    let d = domain_at(script, at + 8);
-    let r = changed(head % 256, d, Value(wire::signed(head / 4294967296)));
-    put_after(r, out, to);
+    let d = regs::domain(register_at(script, at + 8));
+    let r = called(head % 256, d, Value(wire::signed(head / 4294967296)));
+    wire::put_words(&[r.answer, r.left.lo, r.left.hi, r.left.bounds], out, to);
 }
 
 fn removals(script: &[u8], out: &mut [u8])
@@ -170,16 +145,12 @@ fn removals(script: &[u8], out: &mut [u8])
 
 fn kind(w: u64) -> Kind {
     let k = w % 4;
-    if k == 0 {
-        return Kind::Remove;
+    match k {
+        0 => Kind::Remove,
+        1 => Kind::Assign,
+        2 => Kind::Below,
+        _ => Kind::Above,
     }
-    if k == 1 {
-        return Kind::Assign;
-    }
-    if k == 2 {
-        return Kind::Below;
-    }
-    Kind::Above
 }
 
 fn closing(script: &[u8], at: usize) -> Closing
@@ -216,25 +187,48 @@ fn run(script: &[u8]) -> [Closing; 256]
     cs
 }
 
+// A destination more: its id, and the ends of its chutes.
+fn registered(script: &[u8], at: usize, b: Board) -> Board
+    requires { ⌜ at + 16 ≤ length (now script) ⌝ }
+{
+    let id = low(wire::word(script, at));
+    let ends = wire::word(script, at + 8);
+    let first = Value(wire::signed(ends));
+    let last = Value(wire::signed(ends / 4294967296));
+    let r = board_enter::add_variable(b, Variable(id), first, last);
+    r.board
+}
+
 fn board(script: &[u8], count: usize) -> Board
     requires { ⌜ (8192 ≤ length (now script)) × (count < 65) ⌝ }
 {
     let mut b = board_enter::new();
     let mut i = 0;
     while i < count {
-        let id = low(wire::word(script, 16 + 16 * i));
-        let ends = wire::word(script, 24 + 16 * i);
-        let r = board_enter::add_variable(
-            b,
-            Variable(id),
-            Value(wire::signed(ends)),
-            Value(wire::signed(ends / 4294967296)),
-        );
-        let next = r.board;
-        b = next;
+        b = registered(script, 16 + 16 * i, b);
         i += 1;
     }
     b
+}
+
+fn put_mask(row: Row, out: &mut [u8], to: usize)
+    requires { ⌜ to + 16 ≤ length (now out) ⌝ }
+    ensures { λ _. ⌜ length (now (out .exit)) ≡ length (now (out .entry)) ⌝ }
+{
+    let m = row.domain.mask;
+    wire::put_words(&[m.lo, m.hi], out, to);
+}
+
+fn put_masks(rows: [Row; 64], out: &mut [u8], to: usize)
+    requires { ⌜ to + 1024 ≤ length (now out) ⌝ }
+    ensures { λ _. ⌜ length (now (out .exit)) ≡ length (now (out .entry)) ⌝ }
+{
+    let mut i = 0;
+    while i < ROWS {
+        let row = rows[i];
+        put_mask(row, out, to + 16 * i);
+        i += 1;
+    }
 }
 
 // The answer, the flag, and the masks of all rows.
@@ -249,17 +243,8 @@ fn show(r: Batched, out: &mut [u8], to: usize)
     if b.changed {
         flag = 1;
     }
-    wire::put_word(out, to, counted(a));
-    wire::put_word(out, to + 8, flag);
-    let mut i = 0;
-    while i < ROWS {
-        let row = rows[i];
-        let d = row.domain;
-        let m = d.mask;
-        wire::put_word(out, to + 16 + 16 * i, m.lo);
-        wire::put_word(out, to + 24 + 16 * i, m.hi);
-        i += 1;
-    }
+    wire::put_words(&[counted(a), flag], out, to);
+    put_masks(rows, out, to + 16);
 }
 
 fn show_both(r: Batched, s: Batched, out: &mut [u8])
@@ -273,20 +258,11 @@ fn show_both(r: Batched, s: Batched, out: &mut [u8])
 // The board's flag is cleared first, and its count set past the limit where the frame asks for a board that isn't well formed.
 fn ready(b: Board, broken: bool) -> Board {
     let r = board_close::reset_changed_flag(b);
-    let c = r.board;
-    let rows = c.rows;
-    let saved = c.saved;
-    let mut count = c.count;
+    let mut next = r.board;
     if broken {
-        count = 65;
+        next.count = 65;
     }
-    Board {
-        rows,
-        count,
-        saved,
-        marks: c.marks,
-        changed: c.changed,
-    }
+    next
 }
 
 fn batches(script: &[u8], out: &mut [u8])

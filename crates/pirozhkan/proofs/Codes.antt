@@ -1,30 +1,37 @@
 -- Every answer of an exported call of the board has room in its code, so that `toldBy` reads it back: a list that is looked at has at most 64 ids
 -- and a batch at most 256 closings, so no place and no count comes near 2 ^ 56. Assumes nothing.
-use mathlib.Core.Path.{_≡_, refl}
+use mathlib.Core.Path.{_≡_, refl, sym, ap, subst}
 use mathlib.Core.Bool.{Bool, true, false, not, cond}
-use mathlib.Core.List.{List, [], _∷_, map}
-use Prim.Native.Nat.{ℕ, suc, _+_, _≤_, _<_, _^_}
+use mathlib.Core.List.{List, [], _∷_, _++_, map}
+use Prim.Native.Nat.{ℕ, zero, suc, _+_, _≤_, _<_, _^_}
 use native.Mathlib.Omega.{arith}
-use lib.Dec.{eqb, leb, ltb}
+use lib.Dec.{T, eqb, leb, ltb}
 use lib.IntN.{ℤ}
-use lib.ListN.{length}
-use borrow.Author.Tests.{leb-true}
+use lib.ListN.{length, drop}
+use mir.Syntax.{w32}
+use mir.Val.{SFits}
+use borrow.Author.Tests.{leb-true, ltb-true}
 use Rattle.rules.specs.Board as rules
 use Rattle.rules.specs.Pass.{pass}
-use Rattle.rules.specs.Sets.{every, some}
+use Rattle.rules.specs.Sets.{Chutes, has, every, some}
 use Rattle.rules.specs.Refusals.{placeOf}
 use Rattle.rules.specs.declared.Refusal.{Refusal}
-use Rattle.rules.specs.declared.Refusal.the-variants.{Broken, Full, TrialOpen, TooDeep, NoMark, Unknown, Repeated, TooLong, NoRoom}
+use Rattle.rules.specs.declared.Refusal.the-variants.{Broken, Full, TrialOpen, TooDeep, NoMark, Unknown, Repeated, TooLong, Empty, NoRoom}
+use Rattle.rules.proofs.SetLaws.{has-head}
+use Rattle.offset.specs.Universe.{value-in}
 use Rattle.mask.specs.Val.{val}
-use Rattle.mask.specs.Sets.{ones-le}
+use lib.Count.{ones-le}
 use Rattle.domain.specs.Set.{setOf, width, well}
-use Rattle.domain.specs.Calls.{newOf, sizeOf, isFixedOf, isEmptyOf}
+use Rattle.domain.specs.Calls.{invalid, at, firstOf, lastOf, onlyOf, newOf, sizeOf, isFixedOf, isEmptyOf, fixedValueOf, minOf, maxOf}
 use Rattle.domain.specs.declared.BitDomain.{BitDomain}
 use Rattle.domain.specs.declared.Told.the-variants as told
 use Rattle.domain.specs.declared.Counted.the-variants as counted
-use Rattle.domain.proofs.Places.{well-width, well-fits}
+use Rattle.domain.specs.declared.Found.the-variants as found
+use Rattle.domain.proofs.Laws.{values-offset}
+use Rattle.domain.proofs.Places.{well-width, well-fits, well-in}
 use Rattle.domain.proofs.Ends.{size-ones}
-use Rattle.domain_values.specs.Calls.{fromValuesOf}
+use Rattle.domain_values.specs.Calls.{fromValuesOf, Written, inFront, toVecOf}
+use Rattle.domain_values.specs.Calls as written-values
 use Rattle.closing.specs.declared.Closing.{Closing}
 use Rattle.board.specs.Answers.{said, unsaid, done, denied}
 use Rattle.board.specs.Obeys.{toldOf, outcomeOf}
@@ -32,21 +39,28 @@ use Rattle.board.specs.Rows.{idAt, domainAt, seatIn, seat, nowhere, withRows}
 use Rattle.board.specs.Well.{wellBoard}
 use Rattle.board.specs.View.{view, rowsFrom}
 use Rattle.board.specs.declared.Board.{Board}
+use Rattle.board.proofs.WellLaws.{well-says}
 use Rattle.board_enter.specs.Enter.{enterOf, entered}
 use Rattle.board_close.specs.Close.{closeAt, closeOf, resetOf, changedOf}
 use Rattle.board_list.specs.Places.{verdictOf}
-use Rattle.board_ask.specs.Answers.{countOf}
+use Rattle.board_ask.specs.Answers.{countOf, chuteOf}
 use Rattle.board_ask.specs.Domains.{domainOf}
-use Rattle.board_ask.specs.Questions.{domainSizeOf, isAssignedOf, isInconsistentOf}
+use Rattle.board_ask.specs.Names.{namesOf, Filled, filled, idsIntoOf}
+use Rattle.board_ask.specs.Questions.{domainSizeOf, isAssignedOf, assignedValueOf, isInconsistentOf, both, getBoundsOf, getIntoOf}
+use Rattle.board_ask.specs.declared.Bounds.{Bounds}
+use Rattle.board_ask.specs.declared.Bounds.the-variants as bounds
 use Rattle.board_ask.specs.Ready.{assigned, judge, readyOf}
 use Rattle.board_spread.specs.Spread.{pairOf, prunedBy, prunedOf, handed, refused, spreadOf}
 use Rattle.trial.specs.Marks.{markOf, restoreOf, keepOf, marked, restored, released}
+use Rattle.batch.specs.declared.Batched.{Batched}
 use Rattle.batch.specs.Batch.{closedBy, closedAll, isYes, yeses, batchOf}
 use Rattle.state.specs.Layout.{size, readOf}
-use Rattle.reply.specs.Told.{coded, Kind, nothing, yesNo, pair, number, toldBy, Of, done-of, said-of, pair-of, count-of, denied-of}
+use Rattle.state.specs.Typed.{Typed}
+use Rattle.reply.specs.Told.{coded, Kind, nothing, yesNo, pair, number, toldBy, Of, done-of, said-of, pair-of, count-of, chute-of, denied-of}
+use Rattle.reply.specs.Told as kinds
 use Rattle.reply.specs.Through.{good, lentTo, Reply, left, written, through, answered}
 use Rattle.reply.proofs.ToldLaws.{told-back}
-use Rattle.pirozhkan.specs.Calls.{named, chute, ranging, listing, closing, resetting, spreading, marking, restoring, keeping, whetherReady, sizing, whetherAssigned, whetherInconsistent, whetherChanged}
+use Rattle.pirozhkan.specs.Calls.{named, chute, ranging, listing, closing, resetting, spreading, marking, restoring, keeping, whetherReady, sizing, whetherAssigned, assignedTo, whetherInconsistent, whetherChanged}
 use Rattle.pirozhkan.specs.Batches.{batching}
 
 -- ---- what the code of a call tells, if its answers have room
@@ -71,44 +85,52 @@ through-told k f room ws = go (ltb (length ws) size) (good ws)
 
 -- ---- the parts
 
+no : {k : Kind} (r : Refusal) → placeOf r < 2 ^ 56 → Of k (rules.denied r)
+no r l = denied-of {r = r} l
+
+broken : {k : Kind} → Of k (rules.denied Broken)
+broken = no Broken (omega arith)
+
 entering : (d : BitDomain) (id : ℕ) (b : Board) → Of nothing (outcomeOf (enterOf b (named id) d .answer))
 unfolding enterOf
 entering d id b = go (wellBoard b) (eqb (b .marks) 0) (ltb (seat b id) nowhere) (ltb (b .count) 64)
   where
+    known : Board
     known = entered b (named id) d (seat b id) (b .count)
 
+    new : Board
     new = entered b (named id) d (b .count) (b .count + 1)
 
     go : (w m p n : Bool) → Of nothing (outcomeOf (cond w (cond m (cond p (done known) (cond n (done new) (denied b Full))) (denied b TrialOpen)) (denied b Broken) .answer))
     go true true true n = done-of
     go true true false true = done-of
-    go true true false false = denied-of (omega arith)
-    go true false p n = denied-of (omega arith)
-    go false m p n = denied-of (omega arith)
+    go true true false false = no Full (omega arith)
+    go true false p n = no TrialOpen (omega arith)
+    go false m p n = broken
 
 trying : (w y : Bool) (c b : Board) (r : Refusal) → placeOf r < 2 ^ 56 → Of nothing (outcomeOf (cond w (cond y (done c) (denied b r)) (denied b Broken) .answer))
 trying true true c b r l = done-of
-trying true false c b r l = denied-of l
-trying false y c b r l = denied-of (omega arith)
+trying true false c b r l = no r l
+trying false y c b r l = broken
 
 telling : (w v y : Bool) → Of yesNo (toldOf (cond w (cond v (told.Is y) (told.Refused Broken)) (told.Refused Broken)))
 telling true true y = said-of y
-telling true false y = denied-of (omega arith)
-telling false v y = denied-of (omega arith)
+telling true false y = broken
+telling false v y = broken
 
-closes : rules.Kind → Board → ℤ → ℕ → Bool
+abbrev closes : rules.Kind → Board → ℤ → ℕ → Bool
 closes k b v p = rules.closes k v (setOf (domainAt (b .rows) p))
 
 -- a list of at most 64 ids names no place past them
-verdictPlace : rules.Verdict → ℕ
+abbrev verdictPlace : rules.Verdict → ℕ
 verdictPlace rules.accepted = 0
 verdictPlace (rules.refused r) = placeOf r
 
 scan-near : (rs : rules.Rows) (seen : List ℕ) (p : ℕ) (is : List ℕ) → p + length is ≤ 64 → verdictPlace (rules.scan rs seen p is) ≤ 64
-unfolding verdictPlace
 scan-near rs seen p [] h = omega arith
 scan-near rs seen p (i ∷ is) h = go (rules.known rs i) (not (rules.among i seen)) (scan-near rs (i ∷ seen) (suc p) is (omega arith))
   where
+    rest : rules.Verdict
     rest = rules.scan rs (i ∷ seen) (suc p) is
 
     go : (a c : Bool) → verdictPlace rest ≤ 64 → verdictPlace (cond a (cond c rest (rules.refused (Repeated p))) (rules.refused (Unknown p))) ≤ 64
@@ -117,11 +139,10 @@ scan-near rs seen p (i ∷ is) h = go (rules.known rs i) (not (rules.among i see
     go false c more = omega arith
 
 listing-near : (is : List ℕ) (rs : rules.Rows) → verdictPlace (rules.listing is rs) ≤ 64
-unfolding verdictPlace
 listing-near is rs = go (leb (length is) 64) refl
   where
     go : (t : Bool) → leb (length is) 64 ≡ t → verdictPlace (cond t (rules.scan rs [] 0 is) (rules.refused TooLong)) ≤ 64
-    go true e = scan-near rs [] 0 is (leb-true (length is) 64 e)
+    go true e = scan-near rs [] 0 is (omega (arith, leb-true (length is) 64 e))
     go false e = omega arith
 
 few-held : (d : BitDomain) → well d ≡ true → length (setOf d) ≤ 128
@@ -131,6 +152,7 @@ yeses-le : (cs : List Closing) (b : Board) → yeses cs b ≤ length cs
 yeses-le [] b = omega arith
 yeses-le (c ∷ cs) b = go (isYes (closedBy c b .answer)) (yeses-le cs (closedBy c b .board))
   where
+    n : ℕ
     n = yeses cs (closedBy c b .board)
 
     go : (y : Bool) → n ≤ length cs → cond y (suc n) n ≤ suc (length cs)
@@ -151,7 +173,7 @@ resetting-of b = go (wellBoard b)
   where
     go : (w : Bool) → Of nothing (outcomeOf (cond w (done (withRows b (b .rows) false)) (denied b Broken) .answer))
     go true = done-of
-    go false = denied-of (omega arith)
+    go false = broken
 
 pub marking-of : (b : Board) → Of nothing (marking b .answer)
 unfolding markOf
@@ -174,7 +196,7 @@ closing-of k id v b = go (wellBoard b) (ltb (seat b id) nowhere)
     go : (w p : Bool) → Of yesNo (toldOf (cond w (cond p (closeAt k b v (seat b id)) (said b false)) (unsaid b Broken) .answer))
     go true true = said-of (closes k b v (seat b id))
     go true false = said-of false
-    go false p = denied-of (omega arith)
+    go false p = broken
 
 pub assigned-of : (id : ℕ) (b : Board) → Of yesNo (whetherAssigned id b)
 unfolding isAssignedOf isFixedOf
@@ -190,7 +212,7 @@ changed-of b = go (wellBoard b)
   where
     go : (w : Bool) → Of yesNo (toldOf (cond w (told.Is (b .changed)) (told.Refused Broken)))
     go true = said-of (b .changed)
-    go false = denied-of (omega arith)
+    go false = broken
 
 -- ---- lists
 
@@ -200,19 +222,20 @@ ready-of is b = go (wellBoard b) (rules.listing is (view b .now)) (listing-near 
   where
     go : (w : Bool) (v : rules.Verdict) → verdictPlace v ≤ 64 → (y : Bool) → Of yesNo (toldOf (cond w (judge v y) (told.Refused Broken)))
     go true rules.accepted near y = said-of y
-    go true (rules.refused r) near y = denied-of (let z : placeOf r ≤ 64 = near in omega arith)
-    go false v near y = denied-of (omega arith)
+    go true (rules.refused r) near y = no r (let z : placeOf r ≤ 64 = near in omega arith)
+    go false v near y = broken
 
 pub spreading-of : (is : List ℕ) (b : Board) → Of pair (spreading is b .answer)
 unfolding spreadOf prunedOf
 spreading-of is b = go (wellBoard b) (verdictOf (idAt (b .rows)) (b .count) is) (listing-near is (rowsFrom (idAt (b .rows)) (λ i. []) 0 (b .count)))
   where
+    ps : List ℕ
     ps = map (seatIn (idAt (b .rows)) (b .count)) is
 
     go : (w : Bool) (v : rules.Verdict) → verdictPlace v ≤ 64 → Of pair (pairOf (cond w (handed b (prunedBy v (b .rows) ps)) (refused b Broken) .answer))
     go true rules.accepted near = pair-of (pass (map (λ p. setOf (domainAt (b .rows) p)) ps) .changed) (pass (map (λ p. setOf (domainAt (b .rows) p)) ps) .consistent)
-    go true (rules.refused r) near = denied-of (let z : placeOf r ≤ 64 = near in omega arith)
-    go false v near = denied-of (omega arith)
+    go true (rules.refused r) near = no r (let z : placeOf r ≤ 64 = near in omega arith)
+    go false v near = broken
 
 -- ---- how many
 
@@ -220,18 +243,101 @@ pub sizing-of : (id : ℕ) (b : Board) → Of number (sizing id b)
 unfolding domainSizeOf sizeOf
 sizing-of id b = go (wellBoard b) (well (domainOf b id)) refl
   where
+    d : BitDomain
     d = domainOf b id
 
     go : (w v : Bool) → well d ≡ v → Of number (countOf (cond w (cond v (counted.Count (length (setOf d))) (counted.Refused Broken)) (counted.Refused Broken)))
-    go true true e = count-of (omega (arith, few-held d e))
-    go true false e = denied-of (omega arith)
-    go false v e = denied-of (omega arith)
+    go true true e = count-of {n = length (setOf d)} (omega (arith, few-held d e))
+    go true false e = broken
+    go false v e = broken
 
 -- closings as many as a batch may have
 pub batching-of : (cs : List Closing) → length cs ≤ 256 → (b : Board) → Of number (batching cs b .answer)
 unfolding batchOf
 batching-of cs h b = go (wellBoard b)
   where
-    go : (w : Bool) → Of number (countOf (cond w (record { board = closedAll cs b; answer = counted.Count (yeses cs b) }) (record { board = b; answer = counted.Refused Broken }) .answer))
-    go true = count-of (omega (arith, yeses-le cs b))
-    go false = denied-of (omega arith)
+    go : (w : Bool) → Of number (countOf (cond {A = Batched} w (record { board = closedAll cs b; answer = counted.Count (yeses cs b) }) (record { board = b; answer = counted.Refused Broken }) .answer))
+    go true = count-of {n = yeses cs b} (omega (arith, yeses-le cs b))
+    go false = broken
+
+pub values-of : (id : ℕ) (cells : List ℤ) (b : Board) → Of number (countOf (getIntoOf b (named id) cells .answer))
+unfolding getIntoOf toVecOf
+values-of id cells b = go (wellBoard b) (well d) refl (ltb (length cells) (length (setOf d)))
+  where
+    d : BitDomain
+    d = domainOf b id
+
+    go : (w v : Bool) → well d ≡ v → (t : Bool) → Of number (countOf (cond {A = Written} w (cond v (cond t (written-values.written (counted.Refused NoRoom) cells) (inFront (setOf d) cells)) (written-values.written (counted.Refused Broken) cells)) (written-values.written (counted.Refused Broken) cells) .answer))
+    go true true e true = no NoRoom (omega arith)
+    go true true e false = count-of {n = length (setOf d)} (omega (arith, few-held d e))
+    go true false e t = broken
+    go false v e t = broken
+
+names-length : (id : ℕ → ℕ) (k n : ℕ) → length (namesOf id k n) ≡ n
+names-length id k zero = refl
+names-length id k (suc n) = ap suc (names-length id (suc k) n)
+
+pub ids-of : (cells : List ℕ) (b : Board) → Of number (countOf (idsIntoOf b cells .answer))
+unfolding idsIntoOf
+ids-of cells b = go (wellBoard b) refl (ltb (length cells) (length names))
+  where
+    names : List ℕ
+    names = namesOf (idAt (b .rows)) 0 (b .count)
+
+    go : (w : Bool) → wellBoard b ≡ w → (t : Bool) → Of number (countOf (cond {A = Filled} w (cond t (filled (counted.Refused NoRoom) cells) (filled (counted.Count (length names)) (names ++ drop (length names) cells))) (filled (counted.Refused Broken) cells) .answer))
+    go true e true = no NoRoom (omega arith)
+    go true e false = count-of {n = length names} (omega (arith, names-length (idAt (b .rows)) 0 (b .count), well-says (b .rows) (b .count) (b .saved) (b .marks) e .few-rows))
+    go false e t = broken
+
+-- ---- a chute: an i32, since the ends of every universe are
+
+held-fits : (d : BitDomain) → well d ≡ true → SFits w32 (d .min) → SFits w32 (d .max) → (x : ℤ) → T (has x (setOf d)) → SFits w32 x
+held-fits d w f g x h =
+    let r = values-offset (d .min) (d .mask) x h in
+    subst (λ (z : ℤ). SFits w32 z) (sym (r .1)) (value-in (d .min) (d .max) (r .0) f g (well-in d w (r .0) (r .2)))
+
+-- a row's domain, or that of no row
+ends-fit : (b : Board) (id : ℕ) → Typed b → SFits w32 (domainOf b id .min) × SFits w32 (domainOf b id .max)
+ends-fit b id t = go (ltb (seat b id) nowhere) refl
+  where
+    go : (p : Bool) → ltb (seat b id) nowhere ≡ p → SFits w32 (cond p (domainAt (b .rows) (seat b id)) invalid .min) × SFits w32 (cond p (domainAt (b .rows) (seat b id)) invalid .max)
+    go true e = let l = ltb-true (seat b id) nowhere e in (t .min (seat b id) l, t .max (seat b id) l)
+    go false e = (record { sfits = omega arith }, record { sfits = omega arith })
+
+pub value-of : (id : ℕ) (b : Board) → Typed b → Of kinds.chute (assignedTo id b)
+unfolding assignedValueOf fixedValueOf
+value-of id b t = go (wellBoard b) (well d) refl (setOf d) refl
+  where
+    d : BitDomain
+    d = domainOf b id
+
+    go : (w v : Bool) → well d ≡ v → (s : Chutes) → setOf d ≡ s → Of kinds.chute (chuteOf (cond w (cond v (onlyOf s) (found.Refused Broken)) (found.Refused Broken)))
+    go true true e [] q = no Empty (omega arith)
+    go true true e (x ∷ []) q = let f = ends-fit b id t in chute-of {v = x} (held-fits d e (f .0) (f .1) x (subst (λ (s : Chutes). T (has x s)) (sym q) (has-head x [])))
+    go true true e (x ∷ y ∷ s) q = no Empty (omega arith)
+    go true false e s q = broken
+    go false v e s q = broken
+
+-- ---- both ends go into lent cells: a refusal names no place
+
+abbrev pub boundsPlace : Bounds → ℕ
+boundsPlace (bounds.Refused r) = placeOf r
+boundsPlace (bounds.Between x y) = 0
+
+pub bounds-of : (id : ℕ) (b : Board) → boundsPlace (getBoundsOf b (named id)) ≡ 0
+unfolding getBoundsOf minOf maxOf
+bounds-of id b = go (wellBoard b) (well (domainOf b id)) (setOf (domainOf b id))
+  where
+    go : (w v : Bool) (s : Chutes) → boundsPlace (cond w (both (cond v (firstOf s) (found.Refused Broken)) (cond v (lastOf s) (found.Refused Broken))) (bounds.Refused Broken)) ≡ 0
+    go true true [] = refl
+    go true true (x ∷ s) = last s
+      where
+        last : (s : Chutes) → boundsPlace (both (at x) (lastOf (x ∷ s))) ≡ 0
+        last [] = refl
+        last (y ∷ s) = ends y s
+          where
+            ends : (y : ℤ) (s : Chutes) → boundsPlace (both (at x) (lastOf (y ∷ s))) ≡ 0
+            ends y [] = refl
+            ends y (z ∷ s) = ends z s
+    go true false s = refl
+    go false v s = refl

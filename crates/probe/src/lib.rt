@@ -3,9 +3,8 @@
 // probe_domain: runs a script of calls, bytes in, answers and states as bytes out (differential/FORMAT.md says which)
 //
 // It has no `requires`: it is safe on whatever it is lent.
-pub mod pairs;
+pub mod calls;
 pub mod run;
-pub mod single;
-pub mod values;
+pub mod turns;
 
 pub use run::probe_domain;

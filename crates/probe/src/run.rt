@@ -2,116 +2,72 @@
 ghost use mathlib.Core.Path.{_≡_};
 ghost use Prim.Native.Nat.{_+_, _<_, _≤_};
 ghost use lib.ListN.{length};
-use super::pairs;
-use super::single;
-use super::single::Turn;
-use super::values;
-use mask::Mask;
+use super::turns;
+use domain_pairs::Kept;
 use probe_parts::lent;
 use probe_parts::record;
 use probe_parts::record::Record;
 use probe_parts::regs;
+use probe_parts::regs::Register;
 use probe_parts::reply;
-use probe_parts::reply::Left;
-use probe_parts::reply::Reply;
-use rules::Value;
+use probe_parts::turn::Turn;
 
 // The most bytes that a record's answer and lent cells take.
 const MOST: usize = 2112;
 
-fn clear(regs: &mut [u64; 256]) {
-    let mut i = 0;
-    while i < regs::WORDS {
-        regs[i] = 0;
-        i += 1;
+// What is left of state b: 50 saves domain a, 52 sets it.
+fn saved(k: Kept, old: Register) -> Register {
+    match k {
+        Kept::State(s) => regs::of_state(s),
+        Kept::Refused(_) => old,
     }
 }
 
-// What stands in domain register a, or in cursor register b.
-fn left_domain(regs: &[u64; 256], a: usize) -> Left
-    requires { ⌜ a < 8 ⌝ }
-{
-    let at = 3 * a;
-    Left {
-        lo: regs[at],
-        hi: regs[at + 1],
-        bounds: regs[at + 2],
-    }
-}
-
-fn left_cursor(regs: &[u64; 256], b: usize) -> Left
-    requires { ⌜ b < 8 ⌝ }
-{
-    let at = 24 + 3 * b;
-    Left {
-        lo: regs[at],
-        hi: regs[at + 1],
-        bounds: regs[at + 2],
-    }
-}
-
-// The calls whose domain goes into register a: all but those on cursors and lent cells.
-fn on_domain(r: Record, regs: &mut [u64; 256]) -> Turn
+fn state(r: Record, regs: &[u64; 256]) -> Register
     requires { ⌜ (r .a < 8) × (r .b < 8) ⌝ }
 {
-    let d = regs::domain(regs, r.a);
-    let e = regs::domain(regs, r.b);
-    let op = r.op;
-    if op < 8 {
-        return single::make(r, d, e);
+    if r.op == 52 {
+        return turns::raw(r, r.n as u64);
     }
-    if op < 10 {
-        return values::gather(r, regs, d);
-    }
-    if op < 32 {
-        return single::after(d, single::ask(op, d, Value(r.v)));
-    }
-    if op < 40 {
-        return single::change(op, d, Value(r.v));
-    }
-    if op < 50 {
-        return pairs::both(op, d, e, Mask { lo: r.lo, hi: r.hi });
-    }
-    pairs::states(r, regs, d)
+    saved(
+        domain_pairs::save_state(regs::domain(regs::get(regs, r.a))),
+        regs::get(regs, regs::STATES + r.b),
+    )
 }
 
-fn run_domain(r: Record, regs: &mut [u64; 256]) -> Reply
-    requires { ⌜ (r .a < 8) × (r .b < 8) ⌝ }
-{
-    let t = on_domain(r, regs);
-    let d = t.domain;
-    regs::put_domain(regs, r.a, d);
-    t.reply
-}
-
-// The calls that are lent no cells.
-fn run_plain(r: Record, regs: &mut [u64; 256]) -> Reply
+// What a record does to other registers than the one that its answer shows.
+fn beside(r: Record, regs: &mut [u64; 256])
     requires { ⌜ (r .a < 8) × (r .b < 8) ⌝ }
 {
     let op = r.op;
-    if 56 <= op {
-        let d = regs::domain(regs, r.a);
-        return values::walk(r, regs, d);
+    match op {
+        0 => {
+            regs::clear(regs);
+        }
+        10 => {
+            regs::put_values(regs, r.n, r.lo, r.hi);
+        }
+        50 | 52 => {
+            let left = state(r, regs);
+            regs::put(regs, regs::STATES + r.b, left);
+        }
+        _ => {}
     }
-    if op == 0 {
-        clear(regs);
-    }
-    if op == 10 {
-        regs::put_values(regs, r.n, r.lo, r.hi);
-    }
-    run_domain(r, regs)
 }
 
-// The register that a call leaves: cursor b for those on cursors, else domain a.
-fn left(r: Record, regs: &[u64; 256]) -> Left
+// Runs a record that is lent no cells: those from 56 on are on cursor b, the others on domain a.
+fn run(r: Record, regs: &mut [u64; 256]) -> Turn
     requires { ⌜ (r .a < 8) × (r .b < 8) ⌝ }
 {
     if 56 <= r.op {
-        if r.op < 60 {
-            return left_cursor(regs, r.b);
-        }
+        let t = turns::on_cursor(r, regs);
+        regs::put(regs, regs::CURSORS + r.b, t.left);
+        return t;
     }
-    left_domain(regs, r.a)
+    beside(r, regs);
+    let t = turns::on_domain(r, regs);
+    regs::put(regs, r.a, t.left);
+    t
 }
 
 // Runs a record, writes what it answered at `to`, and answers how many bytes that took.
@@ -120,14 +76,14 @@ fn step(r: Record, regs: &mut [u64; 256], out: &mut [u8], to: usize) -> usize
     ensures { λ n. ⌜ (n ≤ 2112) × (length (now (out .exit)) ≡ length (now (out .entry))) ⌝ }
 {
     if 60 <= r.op {
-        let d = regs::domain(regs, r.a);
-        let shown = lent::run(r, d, out, to + 64);
+        let left = regs::get(regs, r.a);
+        let shown = lent::run(r, regs::domain(left), out, to + 64);
         let answer = shown.answer;
-        reply::write(r.op, reply::counted(answer), left(r, regs), out, to);
+        reply::write(r.op, reply::counted(answer), left, out, to);
         return 64 + shown.bytes;
     }
-    let answer = run_plain(r, regs);
-    reply::write(r.op, answer, left(r, regs), out, to);
+    let t = run(r, regs);
+    reply::write(r.op, t.reply, t.left, out, to);
     64
 }
 

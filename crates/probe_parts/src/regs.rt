@@ -1,94 +1,116 @@
-// The registers of a run, in one array of words: eight domains, eight cursors, eight saved states, and a list of values.
+// The registers of a run, in one array of words: eight domains, eight cursors and eight saved states, of three words each, and a list of values.
+ghost use mathlib.Core.Path.{_≡_};
 ghost use Prim.Native.Nat.{_<_};
+ghost use lib.ListN.{length};
 use super::wire;
 use domain::BitDomain;
 use domain_pairs::BitState;
 use domain_values::BitCursor;
 use mask::Mask;
 
-pub const WORDS: usize = 256;
+// Cursor b is register 8 + b, state b is register 16 + b.
+pub const CURSORS: usize = 8;
 
-const CURSORS: usize = 24;
-
-const STATES: usize = 48;
+pub const STATES: usize = 16;
 
 const VALUES: usize = 72;
 
 // How many values the list has.
 pub const LISTED: usize = 160;
 
-pub fn domain(regs: &[u64; 256], a: usize) -> BitDomain
-    requires { ⌜ a < 8 ⌝ }
+// What a register holds: a mask, and bounds or another number.
+pub struct Register {
+    pub lo: u64,
+    pub hi: u64,
+    pub bounds: u64,
+}
+
+pub fn get(regs: &[u64; 256], i: usize) -> Register
+    requires { ⌜ i < 24 ⌝ }
 {
-    let at = 3 * a;
-    let bounds = regs[at + 2];
+    let at = 3 * i;
+    Register {
+        lo: regs[at],
+        hi: regs[at + 1],
+        bounds: regs[at + 2],
+    }
+}
+
+pub fn put(regs: &mut [u64; 256], i: usize, r: Register)
+    requires { ⌜ i < 24 ⌝ }
+{
+    let at = 3 * i;
+    regs[at] = r.lo;
+    regs[at + 1] = r.hi;
+    regs[at + 2] = r.bounds;
+}
+
+pub fn bounds(d: BitDomain) -> u64 {
+    wire::bits(d.min) | (wire::bits(d.max) << 32)
+}
+
+pub fn of_domain(d: BitDomain) -> Register {
+    Register {
+        lo: d.mask.lo,
+        hi: d.mask.hi,
+        bounds: bounds(d),
+    }
+}
+
+pub fn domain(r: Register) -> BitDomain {
     BitDomain {
-        mask: Mask {
-            lo: regs[at],
-            hi: regs[at + 1],
-        },
-        min: wire::signed(bounds),
-        max: wire::signed(bounds >> 32),
+        mask: Mask { lo: r.lo, hi: r.hi },
+        min: wire::signed(r.bounds),
+        max: wire::signed(r.bounds >> 32),
     }
 }
 
-pub fn put_domain(regs: &mut [u64; 256], a: usize, d: BitDomain)
-    requires { ⌜ a < 8 ⌝ }
-{
-    let at = 3 * a;
-    regs[at] = d.mask.lo;
-    regs[at + 1] = d.mask.hi;
-    regs[at + 2] = wire::bits(d.min) | (wire::bits(d.max) << 32);
+pub fn of_cursor(c: BitCursor) -> Register {
+    Register {
+        lo: c.mask.lo,
+        hi: c.mask.hi,
+        bounds: wire::bits(c.min),
+    }
 }
 
-pub fn cursor(regs: &[u64; 256], a: usize) -> BitCursor
-    requires { ⌜ a < 8 ⌝ }
-{
-    let at = CURSORS + 3 * a;
+pub fn cursor(r: Register) -> BitCursor {
     BitCursor {
-        mask: Mask {
-            lo: regs[at],
-            hi: regs[at + 1],
-        },
-        min: wire::signed(regs[at + 2]),
+        mask: Mask { lo: r.lo, hi: r.hi },
+        min: wire::signed(r.bounds),
     }
 }
 
-pub fn put_cursor(regs: &mut [u64; 256], a: usize, c: BitCursor)
-    requires { ⌜ a < 8 ⌝ }
-{
-    let at = CURSORS + 3 * a;
-    regs[at] = c.mask.lo;
-    regs[at + 1] = c.mask.hi;
-    regs[at + 2] = wire::bits(c.min);
+pub fn of_state(s: BitState) -> Register {
+    Register {
+        lo: s.mask.lo,
+        hi: s.mask.hi,
+        bounds: s.size as u64,
+    }
 }
 
-pub fn state(regs: &[u64; 256], a: usize) -> BitState
-    requires { ⌜ a < 8 ⌝ }
-{
-    let at = STATES + 3 * a;
+pub fn state(r: Register) -> BitState {
     BitState {
-        mask: Mask {
-            lo: regs[at],
-            hi: regs[at + 1],
-        },
-        size: regs[at + 2] as usize,
+        mask: Mask { lo: r.lo, hi: r.hi },
+        size: r.bounds as usize,
     }
 }
 
-pub fn put_state(regs: &mut [u64; 256], a: usize, s: BitState)
-    requires { ⌜ a < 8 ⌝ }
-{
-    let at = STATES + 3 * a;
-    regs[at] = s.mask.lo;
-    regs[at + 1] = s.mask.hi;
-    regs[at + 2] = s.size as u64;
+pub fn clear(regs: &mut [u64; 256]) {
+    *regs = [0u64; 256];
 }
 
-pub fn value(regs: &[u64; 256], i: usize) -> i32
-    requires { ⌜ i < 160 ⌝ }
+// The listed values.
+pub fn values(regs: &[u64; 256]) -> [i32; 160]
+    ensures { λ r. ⌜ length r ≡ 160 ⌝ }
 {
-    wire::signed(regs[VALUES + i])
+    let mut values = [0i32; 160];
+    let mut i = 0;
+    while i < LISTED {
+        let v = wire::signed(regs[VALUES + i]);
+        values[i] = v;
+        i += 1;
+    }
+    values
 }
 
 // Four values from i on, two to a word; those past the list's end are passed over.

@@ -2,16 +2,15 @@
 ghost use mathlib.Core.Path.{_≡_};
 ghost use Prim.Native.Nat.{_+_, _≤_};
 ghost use lib.ListN.{length};
+use super::regs::Register;
 use super::wire;
-use domain::BitDomain;
 use domain::Counted;
 use domain::Found;
-use domain::Made;
 use domain::Outcome;
 use domain::Told;
 use domain_pairs::Kept;
 use domain_pairs::Masked;
-use domain_values::Begun;
+use domain_values::BitCursor;
 use domain_values::Yielded;
 use mask::Mask;
 use rules::Refusal;
@@ -19,16 +18,9 @@ use rules::Value;
 
 pub const SIZE: usize = 64;
 
-// The register that the call left, as it stands after it.
-pub struct Left {
-    pub lo: u64,
-    pub hi: u64,
-    pub bounds: u64,
-}
-
+// What kind of answer it is with the refusal's number above it, a count, a value, and a mask.
 pub struct Reply {
     pub kind: u64,
-    pub number: u64,
     pub count: u64,
     pub value: u64,
     pub lo: u64,
@@ -38,7 +30,6 @@ pub struct Reply {
 pub fn plain(kind: u64) -> Reply {
     Reply {
         kind,
-        number: 0,
         count: 0,
         value: 0,
         lo: 0,
@@ -52,8 +43,7 @@ pub fn none() -> Reply {
 
 pub fn refused(r: Refusal) -> Reply {
     Reply {
-        kind: 255,
-        number: r.number() as u64,
+        kind: 255 | ((r.number() as u64) << 8),
         count: r.place() as u64,
         value: 0,
         lo: 0,
@@ -112,13 +102,6 @@ pub fn found(f: Found) -> Reply {
     }
 }
 
-pub fn made(m: Made) -> Reply {
-    match m {
-        Made::Domain(_) => plain(5),
-        Made::Refused(r) => refused(r),
-    }
-}
-
 pub fn masked(m: Masked) -> Reply {
     match m {
         Masked::Bits(b) => held(6, b),
@@ -137,15 +120,10 @@ pub fn kept(k: Kept) -> Reply {
     }
 }
 
-pub fn begun(b: Begun) -> Reply {
-    match b {
-        Begun::Cursor(c) => {
-            let mut r = held(8, c.mask);
-            r.value = wire::bits(c.min);
-            r
-        }
-        Begun::Refused(r) => refused(r),
-    }
+pub fn walk(c: BitCursor) -> Reply {
+    let mut r = held(8, c.mask);
+    r.value = wire::bits(c.min);
+    r
 }
 
 pub fn yielded(y: Yielded) -> Reply {
@@ -156,23 +134,20 @@ pub fn yielded(y: Yielded) -> Reply {
     }
 }
 
-// Four words, one behind the other.
-pub fn put_four(out: &mut [u8], at: usize, a: u64, b: u64, c: u64, d: u64)
-    requires { ⌜ at + 32 ≤ length (now out) ⌝ }
-    ensures { λ _. ⌜ length (now (out .exit)) ≡ length (now (out .entry)) ⌝ }
-{
-    wire::put_word(out, at, a);
-    wire::put_word(out, at + 8, b);
-    wire::put_word(out, at + 16, c);
-    wire::put_word(out, at + 24, d);
-}
-
 // Writes the answer to `op`, and the register that it left, at `at`.
-pub fn write(op: u64, r: Reply, left: Left, out: &mut [u8], at: usize)
+pub fn write(op: u64, r: Reply, left: Register, out: &mut [u8], at: usize)
     requires { ⌜ at + 64 ≤ length (now out) ⌝ }
     ensures { λ _. ⌜ length (now (out .exit)) ≡ length (now (out .entry)) ⌝ }
 {
-    let head = op | (r.kind << 8) | (r.number << 16);
-    put_four(out, at, head, r.count, r.value, r.lo);
-    put_four(out, at + 32, r.hi, left.lo, left.hi, left.bounds);
+    let words = [
+        op | (r.kind << 8),
+        r.count,
+        r.value,
+        r.lo,
+        r.hi,
+        left.lo,
+        left.hi,
+        left.bounds,
+    ];
+    wire::put_words(&words, out, at);
 }

@@ -1,6 +1,6 @@
 // Numbers as bytes, the lowest first.
 ghost use mathlib.Core.Path.{_≡_};
-ghost use Prim.Native.Nat.{_+_, _≤_};
+ghost use Prim.Native.Nat.{_+_, _*_, _≤_};
 ghost use lib.ListN.{length};
 
 fn wide(x: u8) -> u64 {
@@ -11,33 +11,38 @@ fn wide(x: u8) -> u64 {
 pub fn word(s: &[u8], at: usize) -> u64
     requires { ⌜ at + 8 ≤ length (now s) ⌝ }
 {
-    let low = wide(s[at])
-        | (wide(s[at + 1]) << 8)
-        | (wide(s[at + 2]) << 16)
-        | (wide(s[at + 3]) << 24);
-    let high = wide(s[at + 4])
-        | (wide(s[at + 5]) << 8)
-        | (wide(s[at + 6]) << 16)
-        | (wide(s[at + 7]) << 24);
-    low | (high << 32)
-}
-
-fn byte(w: u64) -> u8 {
-    (w % 256) as u8
+    let mut w: u64 = 0;
+    let mut i = 8;
+    while 0 < i {
+        i -= 1;
+        w = (w << 8) | wide(s[at + i]);
+    }
+    w
 }
 
 pub fn put_word(out: &mut [u8], at: usize, w: u64)
     requires { ⌜ at + 8 ≤ length (now out) ⌝ }
     ensures { λ _. ⌜ length (now (out .exit)) ≡ length (now (out .entry)) ⌝ }
 {
-    out[at] = byte(w);
-    out[at + 1] = byte(w >> 8);
-    out[at + 2] = byte(w >> 16);
-    out[at + 3] = byte(w >> 24);
-    out[at + 4] = byte(w >> 32);
-    out[at + 5] = byte(w >> 40);
-    out[at + 6] = byte(w >> 48);
-    out[at + 7] = byte(w >> 56);
+    let mut rest = w;
+    let mut i = 0;
+    while i < 8 {
+        out[at + i] = (rest % 256) as u8;
+        rest = rest >> 8;
+        i += 1;
+    }
+}
+
+// Words, one behind the other.
+pub fn put_words(words: &[u64], out: &mut [u8], at: usize)
+    requires { ⌜ at + 8 * length (now words) ≤ length (now out) ⌝ }
+    ensures { λ _. ⌜ length (now (out .exit)) ≡ length (now (out .entry)) ⌝ }
+{
+    let mut i = 0;
+    while i < words.len() {
+        put_word(out, at + 8 * i, words[i]);
+        i += 1;
+    }
 }
 
 // A signed number stands in a word as its distance from the least i32.

@@ -1,39 +1,41 @@
--- What is beyond a limit, gathered over masks; what a put changes and leaves of the saved masks; and that words stay words.
+-- What is below a limit, of two masks together; what a put changes and leaves of the saved masks; and that words stay words.
 use mathlib.Core.Path.{_≡_, refl, _∙_}
 use mathlib.Core.Bool.{Bool, true, false, _&&_}
 use mathlib.Core.List.{List, [], _∷_}
-use Prim.Native.Nat.{ℕ, zero, suc, _+_, _-_, _^_, _<_}
+use mathlib.Core.Logic.{inl, inr}
+use Prim.Native.Nat.{ℕ, zero, suc, _+_, _^_, _≤_, _<_}
 use native.Mathlib.Nat.{le-antisymm}
 use native.Mathlib.Omega.{arith}
 use lib.Bits.{bitOr}
-use lib.Dec.{eqb, ltb}
+use lib.Dec.{T, ltb, ltb→lt}
 use lib.ListN.{length, getD, set, length-set}
 use lib.Seq.{getD-set-same, getD-set-other}
-use borrow.Author.Tests.{eqb-true, eqb-false, ne-eqb}
-use Rattle.mask.specs.Bit.{bitMinus, or-none}
-use Rattle.mask.specs.Sets.{in-first, fits-in, minus-none, subset-in}
-use Rattle.mask.specs.Tests.{eqb-ltb-iff}
+use borrow.Author.Tests.{ltb-true, ltb-false, lt-ltb}
+use Rattle.mask.specs.Sets.{In, in-or, fits-in, or-below}
 use Rattle.mask.specs.Val.{Fit}
 use Rattle.mask.specs.Words.{Words, word-lt}
 use Rattle.mask.specs.declared.Mask.{Mask}
 use Rattle.saved.specs.Saved.{start, savedAt, putAt}
 
--- ---- what is beyond
+-- ---- what is below a limit
 
--- x without its members below k is none exactly if x is below 2 ^ k
-pub beyond-none : (x k : ℕ) → eqb (bitMinus x (2 ^ k - 1)) 0 ≡ ltb x (2 ^ k)
-beyond-none x k =
-    eqb-ltb-iff (bitMinus x (2 ^ k - 1)) 0 x (2 ^ k)
-    (λ e. fits-in x k .1 (λ j h. in-first k j .0 (subset-in x (2 ^ k - 1) .0 (minus-none x (2 ^ k - 1) .0 e) j h)))
-    (λ l. minus-none x (2 ^ k - 1) .1 (subset-in x (2 ^ k - 1) .1 (λ j h. in-first k j .1 (fits-in x k .0 l j h))))
+is-false : (b : Bool) → (T b → ⊥) → b ≡ false
+is-false true f = absurd (f tt)
+is-false false f = refl
 
-pub or-test : (a b : ℕ) → eqb (bitOr a b) 0 ≡ eqb b 0 && eqb a 0
-or-test a b = go (eqb b 0) refl (eqb a 0) refl
+pub or-limit : (a b k : ℕ) → ltb (bitOr a b) (2 ^ k) ≡ ltb a (2 ^ k) && ltb b (2 ^ k)
+or-limit a b k = go (ltb a (2 ^ k)) refl (ltb b (2 ^ k)) refl
   where
-    go : (s : Bool) → eqb b 0 ≡ s → (t : Bool) → eqb a 0 ≡ t → eqb (bitOr a b) 0 ≡ s && t
-    go true p true q = rw (eqb-true b 0 p, eqb-true a 0 q)
-    go true p false q = ne-eqb (bitOr a b) 0 (λ e. eqb-false a 0 q (or-none a b e .0))
-    go false p t q = ne-eqb (bitOr a b) 0 (λ e. eqb-false b 0 p (or-none a b e .1))
+    clash : (x y : ℕ) → y ≤ x → x < y → ⊥
+    clash x y h l = omega arith
+
+    past : (x : ℕ) → ltb x (2 ^ k) ≡ false → ((j : ℕ) → In x j → In (bitOr a b) j) → ltb (bitOr a b) (2 ^ k) ≡ false
+    past x e f = is-false (ltb (bitOr a b) (2 ^ k)) (λ t. clash x (2 ^ k) (ltb-false x (2 ^ k) e) (fits-in x k .1 (λ j h. fits-in (bitOr a b) k .0 (ltb→lt (bitOr a b) (2 ^ k) t) j (f j h))))
+
+    go : (s : Bool) → ltb a (2 ^ k) ≡ s → (t : Bool) → ltb b (2 ^ k) ≡ t → ltb (bitOr a b) (2 ^ k) ≡ s && t
+    go true p true q = lt-ltb (bitOr a b) (2 ^ k) (or-below a b k (ltb-true a (2 ^ k) p) (ltb-true b (2 ^ k) q))
+    go true p false q = past b q (λ j h. in-or a b j .1 (inr h))
+    go false p t q = past a p (λ j h. in-or a b j .1 (inl h))
 
 -- ---- a put
 

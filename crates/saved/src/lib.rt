@@ -1,8 +1,10 @@
 // The masks that the open marks of a board saved, one for each row, in one run of words. Nothing above knows how many
 // words a mask has: each contract speaks of `savedAt`, the mask that a mark saved for a row.
 ghost use mathlib.Core.Path.{_≡_};
-ghost use Prim.Native.Nat.{_≤_, _<_};
-ghost use Rattle.mask.specs.Val.{offsets};
+ghost use mathlib.Core.Bool.{_&&_};
+ghost use Prim.Native.Nat.{ℕ, _^_, _≤_, _<_};
+ghost use lib.Dec.{ltb};
+ghost use Rattle.mask.specs.Val.{val};
 ghost use Rattle.saved.specs.Saved.{savedAt, putAt, fitUnder};
 use mask::Mask;
 
@@ -33,21 +35,16 @@ pub fn put(ws: &mut Saved, m: usize, i: usize, x: Mask)
     ws[k + 1] = x.hi;
 }
 
-// Whether each mask that the first marks saved for row i has no member at the offset k or above. Nothing ends it early:
-// what stands beyond is gathered.
-pub fn fit(ws: &Saved, marks: usize, i: usize, k: usize) -> bool
-    requires { ⌜ (marks ≤ 8) × (i < 64) × (k ≤ offsets) ⌝ }
-    ensures { λ r. ⌜ r ≡ fitUnder (now (ws .entry)) marks i k ⌝ }
+// x and all members of the masks that the first marks saved for row i: below a limit exactly if x and each of them are.
+pub fn join(ws: &Saved, marks: usize, i: usize, x: Mask) -> Mask
+    requires { ⌜ (marks ≤ 8) × (i < 64) ⌝ }
+    ensures { λ r. ⌜ ((k : ℕ) → ltb (val r) (2 ^ k) ≡ ltb (val x) (2 ^ k) && fitUnder (now (ws .entry)) marks i k) ⌝ }
 {
-    if marks == 0 {
-        return true;
-    }
-    let limit = mask::first_n(k);
-    let mut beyond = mask::empty();
+    let mut all = x;
     let mut m = 0;
     while m < marks {
-        beyond = mask::or(beyond, mask::minus(at(ws, m, i), limit));
+        all = mask::or(all, at(ws, m, i));
         m += 1;
     }
-    mask::is_none(beyond)
+    all
 }

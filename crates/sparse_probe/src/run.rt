@@ -3,27 +3,25 @@ ghost use mathlib.Core.Path.{_≡_};
 ghost use Prim.Native.Nat.{_+_, _<_, _≤_};
 ghost use lib.ListN.{length};
 use super::cells;
+use super::change;
 use probe_parts::lent::least;
 use probe_parts::record;
 use probe_parts::record::Record;
+use probe_parts::regs as words;
+use probe_parts::regs::Register;
 use probe_parts::reply;
-use probe_parts::reply::Left;
-use probe_parts::wire;
-use rules::Value;
+use probe_parts::turn::Turn;
+use probe_parts::turn::after;
 use sparse_inner::Sparse;
 use sparse_probe_parts::lent;
-use sparse_probe_parts::lent::Shown;
-use sparse_probe_parts::pairs;
 use sparse_probe_parts::regs;
-use sparse_probe_parts::regs::Given;
 use sparse_probe_parts::seen;
-use sparse_probe_parts::single;
-use sparse_probe_parts::single::Turn;
-use sparse_probe_parts::single::after;
-use sparse_probe_parts::values;
 
 // The most bytes that a record's answer and the cells behind it take.
 const MOST: usize = 1344;
+
+// How many cells of the orderings of set a are lent stands in register 2 + a, `ind` in the low half and `val` in the high half.
+const LENT: usize = 2;
 
 // Any five numbers as a set.
 fn raw(r: Record) -> Sparse {
@@ -36,143 +34,127 @@ fn raw(r: Record) -> Sparse {
     }
 }
 
-// The listed values from place b up to place b + n.
-fn make(r: Record, s: Sparse, ind: &mut [u32], val: &mut [u32], list: &[i32]) -> Turn {
-    let start = least(r.b, list.len());
-    let end = start + least(least(r.n, 4100), list.len() - start);
-    single::make(r.op, s, ind, val, Value(r.v), Value(r.w), &list[start..end])
+// So many cells are lent.
+fn many(w: u64) -> usize
+    ensures { λ r. ⌜ r ≤ 4104 ⌝ }
+{
+    least(regs::half(w) as usize, 4104)
 }
 
-// The calls that are lent nothing beside the orderings.
-fn call(
-    r: Record,
-    regs: &mut [u64; 64],
-    s: Sparse,
-    ind: &mut [u32],
-    val: &mut [u32],
-    t: Sparse,
-    tind: &[u32],
-    tval: &[u32],
-    list: &[i32],
-) -> Turn
-    requires { ⌜ r .b < 8 ⌝ }
+// What a call is given beside the cells: set a, the other set, and how many cells of each are lent.
+struct Given {
+    old: Register,
+    other: Sparse,
+    here: u64,
+    there: u64,
+}
+
+fn given_to(regs: &[u64; 256], a: usize) -> Given
+    requires { ⌜ a < 2 ⌝ }
 {
-    let op = r.op;
-    if op < 2 {
-        return after(s, reply::none());
+    Given {
+        old: words::get(regs, a),
+        other: regs::set(words::get(regs, 1 - a)),
+        here: words::get(regs, LENT + a).lo,
+        there: words::get(regs, LENT + 1 - a).lo,
     }
-    if op < 9 {
-        return make(r, s, ind, val, list);
-    }
-    if op < 32 {
-        return after(s, single::ask(op, s, ind, val, Value(r.v)));
-    }
-    if op < 40 {
-        return single::change(op, s, ind, val, Value(r.v));
-    }
-    if op < 50 {
-        return pairs::both(op, s, ind, val, t, tind, tval);
-    }
-    if op < 56 {
-        return values::states(r, regs, s, ind, val);
-    }
-    after(s, values::walk(r, regs, s, ind, val))
 }
 
 // Where a lent part ends: so many cells on, or with the cells.
-fn part_end(start: usize, many: usize, cells: usize) -> usize
+fn part_end(start: usize, w: u64, cells: usize) -> usize
     requires { ⌜ start ≤ cells ⌝ }
     ensures { λ r. ⌜ (start ≤ r) × (r ≤ cells) ⌝ }
 {
-    start + least(many, cells - start)
+    start + least(many(w), cells - start)
 }
 
-// The same on the lent parts: two cells into `ind`, three into `val`.
-fn plain(
+// The call on the lent parts: two cells into `ind`, three into `val`.
+fn call(
     r: Record,
-    regs: &mut [u64; 64],
     g: Given,
+    regs: &mut [u64; 256],
     ind: &mut [u32],
     val: &mut [u32],
     tind: &[u32],
     tval: &[u32],
     list: &[i32],
+    out: &mut [u8],
+    at: usize,
 ) -> Turn
-    requires { ⌜ r .b < 8 ⌝ }
+    ensures { λ _. ⌜ length (now (out .exit)) ≡ length (now (out .entry)) ⌝ }
 {
     let ind_start = least(2, ind.len());
-    let ind_end = part_end(ind_start, g.inds, ind.len());
+    let ind_end = part_end(ind_start, g.here, ind.len());
     let val_start = least(3, val.len());
-    let val_end = part_end(val_start, g.vals, val.len());
+    let val_end = part_end(val_start, g.here >> 32, val.len());
     let tind_start = least(2, tind.len());
-    let tind_end = part_end(tind_start, g.other_inds, tind.len());
+    let tind_end = part_end(tind_start, g.there, tind.len());
     let tval_start = least(3, tval.len());
-    let tval_end = part_end(tval_start, g.other_vals, tval.len());
-    call(
+    let tval_end = part_end(tval_start, g.there >> 32, tval.len());
+    change::run(
         r,
         regs,
-        g.set,
+        g.old,
         &mut ind[ind_start..ind_end],
         &mut val[val_start..val_end],
         g.other,
         &tind[tind_start..tind_end],
         &tval[tval_start..tval_end],
         list,
-    )
-}
-
-// The calls that are lent cells beside the orderings: 40 and 44 scratch, 60 and 61 what they write.
-fn beside(
-    r: Record,
-    g: Given,
-    ind: &mut [u32],
-    val: &mut [u32],
-    tind: &[u32],
-    tval: &[u32],
-    out: &mut [u8],
-    at: usize,
-) -> Shown
-    requires { ⌜ (r .b < 8) × (at + 1280 ≤ length (now out)) ⌝ }
-    ensures { λ w. ⌜ (w .bytes ≤ 1280) × (length (now (out .exit)) ≡ length (now (out .entry))) ⌝ }
-{
-    let ind_start = least(2, ind.len());
-    let ind_end = part_end(ind_start, g.inds, ind.len());
-    let val_start = least(3, val.len());
-    let val_end = part_end(val_start, g.vals, val.len());
-    let tind_start = least(2, tind.len());
-    let tind_end = part_end(tind_start, g.other_inds, tind.len());
-    let tval_start = least(3, tval.len());
-    let tval_end = part_end(tval_start, g.other_vals, tval.len());
-    lent::run(
-        r,
-        g.set,
-        &mut ind[ind_start..ind_end],
-        &mut val[val_start..val_end],
-        g.other,
-        &tind[tind_start..tind_end],
-        &tval[tval_start..tval_end],
         out,
         at,
     )
 }
 
+// The records that are no call: 1 sets set a, 4 says how many of its cells are lent, 52 sets state b, 62 cursor b.
+fn set(r: Record, a: usize, regs: &mut [u64; 256]) -> Turn
+    requires { ⌜ (a < 2) × (r .b < 8) ⌝ }
+{
+    let op = r.op;
+    match op {
+        1 => {
+            words::put(regs, a, regs::of_set(raw(r)));
+        }
+        4 => {
+            words::put(regs, LENT + a, regs::of_pair(r.lo, 0));
+        }
+        52 => {
+            let size = regs::half(r.n as u64);
+            let low = regs::pair(size, regs::half(r.lo));
+            words::put(regs, words::STATES + r.b, regs::of_pair(low, r.lo >> 32));
+        }
+        62 => {
+            words::put(regs, words::CURSORS + r.b, regs::of_pair(r.n as u64, 0));
+        }
+        _ => {}
+    }
+    after(words::get(regs, a), reply::none())
+}
+
+fn sets(op: u64) -> bool {
+    match op {
+        0 | 1 | 4 | 5 | 6 | 10 | 52 | 62 | 63 => true,
+        _ => false,
+    }
+}
+
 // How many cells go into what is seen of the orderings: those that are lent and some past them.
-fn seen_cells(regs: &[u64; 64], a: usize) -> usize
-    requires { ⌜ a < 2 ⌝ }
+fn seen_cells(w: u64) -> usize
     ensures { λ n. ⌜ n ≤ 4112 ⌝ }
 {
-    let g = regs::given_to(regs, a);
-    if g.inds < g.vals {
-        return g.vals + 8;
+    let inds = many(w);
+    let vals = many(w >> 32);
+    if inds < vals {
+        return vals + 8;
     }
-    g.inds + 8
+    inds + 8
 }
 
 // Puts the set that a record left into register a, and writes the answer at `to`.
 fn finish(
     r: Record,
     a: usize,
-    regs: &mut [u64; 64],
+    regs: &mut [u64; 256],
     t: Turn,
     ind: &[u32; 4112],
     val: &[u32; 4112],
@@ -182,124 +164,75 @@ fn finish(
     requires { ⌜ (a < 2) × (r .b < 8) × (to + 64 ≤ length (now out)) ⌝ }
     ensures { λ _. ⌜ length (now (out .exit)) ≡ length (now (out .entry)) ⌝ }
 {
-    let s = t.set;
+    words::put(regs, a, t.left);
+    let mut left = t.left;
+    left.bounds = left.bounds | (words::get(regs, words::CURSORS + r.b).lo << 32);
     let mut reply = t.reply;
-    regs::put_set(regs, a, s);
-    reply.hi = seen::orderings(ind, val, seen_cells(regs, a));
-    let left = Left {
-        lo: wire::bits(s.off) | ((s.n as u64) << 32),
-        hi: regs::pair(s.size, s.min),
-        bounds: regs::pair(s.max, regs::cursor(regs, r.b)),
-    };
+    reply.hi = seen::orderings(ind, val, seen_cells(words::get(regs, LENT + a).lo));
     reply::write(r.op, reply, left, out, to);
 }
 
-fn on_plain(
+// The same for whoever can't show that there is room: where there isn't, nothing is written.
+fn finish_call(
     r: Record,
     a: usize,
-    regs: &mut [u64; 64],
-    ind: &mut [u32; 4112],
-    val: &mut [u32; 4112],
-    tind: &[u32; 4112],
-    tval: &[u32; 4112],
-    list: &[i32; 4112],
-    out: &mut [u8],
-    to: usize,
-)
-    requires { ⌜ (a < 2) × (r .b < 8) × (to + 64 ≤ length (now out)) ⌝ }
-    ensures { λ _. ⌜ length (now (out .exit)) ≡ length (now (out .entry)) ⌝ }
-{
-    let g = regs::given_to(regs, a);
-    let turn = plain(r, regs, g, ind, val, tind, tval, list);
-    finish(r, a, regs, turn, ind, val, out, to);
-}
-
-fn on_beside(
-    r: Record,
-    a: usize,
-    regs: &mut [u64; 64],
-    ind: &mut [u32; 4112],
-    val: &mut [u32; 4112],
-    tind: &[u32; 4112],
-    tval: &[u32; 4112],
-    out: &mut [u8],
-    to: usize,
-) -> usize
-    requires { ⌜ (a < 2) × (r .b < 8) × (to + 1344 ≤ length (now out)) ⌝ }
-    ensures { λ n. ⌜ (n ≤ 1280) × (length (now (out .exit)) ≡ length (now (out .entry))) ⌝ }
-{
-    let behind = to + 64;
-    let g = regs::given_to(regs, a);
-    let shown = beside(r, g, ind, val, tind, tval, out, behind);
-    let bytes = shown.bytes;
-    finish(r, a, regs, after(shown.set, shown.reply), ind, val, out, to);
-    bytes
-}
-
-// The set of a record that is no call: 1 any five numbers, any other as it is; 4 says how many cells are lent.
-fn arranged(r: Record, a: usize, regs: &mut [u64; 64]) -> Sparse
-    requires { ⌜ a < 2 ⌝ }
-{
-    if r.op == 1 {
-        return raw(r);
-    }
-    if r.op == 4 {
-        regs::put_lent(regs, a, r.lo);
-    }
-    regs::set(regs, a)
-}
-
-// The first n cells of both orderings behind the answer to 63.
-fn show(r: Record, ind: &[u32; 4112], val: &[u32; 4112], out: &mut [u8], at: usize) -> usize
-    requires { ⌜ at + 1280 ≤ length (now out) ⌝ }
-    ensures { λ n. ⌜ (n ≤ 1280) × (length (now (out .exit)) ≡ length (now (out .entry))) ⌝ }
-{
-    if r.op != 63 {
-        return 0;
-    }
-    let many = least(r.n, 160);
-    seen::show_orderings(ind, val, many, out, at);
-    8 * many
-}
-
-fn on_register(
-    r: Record,
-    a: usize,
-    regs: &mut [u64; 64],
+    regs: &mut [u64; 256],
+    t: Turn,
     ind: &[u32; 4112],
     val: &[u32; 4112],
     out: &mut [u8],
     to: usize,
-) -> usize
-    requires { ⌜ (a < 2) × (r .b < 8) × (to + 1344 ≤ length (now out)) ⌝ }
-    ensures { λ n. ⌜ (n ≤ 1280) × (length (now (out .exit)) ≡ length (now (out .entry))) ⌝ }
+)
+    ensures { λ _. ⌜ length (now (out .exit)) ≡ length (now (out .entry)) ⌝ }
 {
-    let behind = to + 64;
-    let s = arranged(r, a, regs);
-    finish(r, a, regs, after(s, reply::none()), ind, val, out, to);
-    show(r, ind, val, out, behind)
+    if 2 <= a {
+        return;
+    }
+    if 8 <= r.b {
+        return;
+    }
+    if out.len() < 64 {
+        return;
+    }
+    if out.len() - 64 < to {
+        return;
+    }
+    finish(r, a, regs, t, ind, val, out, to);
 }
 
-// Which records only set or show a register, and which are lent cells beside the orderings.
-fn sets(op: u64) -> bool {
-    match op {
-        0 | 1 | 4 | 5 | 6 | 10 | 63 => true,
-        _ => false,
+// The first n cells of both orderings behind the answer to 63.
+fn show(r: Record, ind: &[u32; 4112], val: &[u32; 4112], out: &mut [u8], at: usize)
+    requires { ⌜ at + 1280 ≤ length (now out) ⌝ }
+    ensures { λ _. ⌜ length (now (out .exit)) ≡ length (now (out .entry)) ⌝ }
+{
+    if r.op == 63 {
+        seen::show_orderings(ind, val, least(r.n, 160), out, at);
     }
 }
 
-fn lends(op: u64) -> bool {
-    match op {
-        40 | 44 | 60 | 61 => true,
-        _ => false,
-    }
-}
-
-// Runs a record on set a, writes what it answered at `to`, and answers how many bytes that took.
-fn on_set(
+// The records that are no call.
+fn on_register(
     r: Record,
     a: usize,
-    regs: &mut [u64; 64],
+    regs: &mut [u64; 256],
+    ind: &[u32; 4112],
+    val: &[u32; 4112],
+    out: &mut [u8],
+    to: usize,
+    behind: usize,
+)
+    requires { ⌜ (a < 2) × (r .b < 8) × (behind + 1280 ≤ length (now out)) ⌝ }
+    ensures { λ _. ⌜ length (now (out .exit)) ≡ length (now (out .entry)) ⌝ }
+{
+    let t = set(r, a, regs);
+    show(r, ind, val, out, behind);
+    finish_call(r, a, regs, t, ind, val, out, to);
+}
+
+fn on_call(
+    r: Record,
+    a: usize,
+    regs: &mut [u64; 256],
     ind: &mut [u32; 4112],
     val: &mut [u32; 4112],
     tind: &[u32; 4112],
@@ -307,18 +240,39 @@ fn on_set(
     list: &[i32; 4112],
     out: &mut [u8],
     to: usize,
+    behind: usize,
+)
+    requires { ⌜ a < 2 ⌝ }
+    ensures { λ _. ⌜ length (now (out .exit)) ≡ length (now (out .entry)) ⌝ }
+{
+    let g = given_to(regs, a);
+    let t = call(r, g, regs, ind, val, tind, tval, list, out, behind);
+    finish_call(r, a, regs, t, ind, val, out, to);
+}
+
+// Runs a record on set a, writes what it answered at `to` and what stands behind it at `behind`, and answers how many bytes that took.
+fn on_set(
+    r: Record,
+    a: usize,
+    regs: &mut [u64; 256],
+    ind: &mut [u32; 4112],
+    val: &mut [u32; 4112],
+    tind: &[u32; 4112],
+    tval: &[u32; 4112],
+    list: &[i32; 4112],
+    out: &mut [u8],
+    to: usize,
+    behind: usize,
 ) -> usize
-    requires { ⌜ (a < 2) × (r .b < 8) × (to + 1344 ≤ length (now out)) ⌝ }
+    requires { ⌜ (a < 2) × (r .b < 8) × (behind + 1280 ≤ length (now out)) ⌝ }
     ensures { λ n. ⌜ (n ≤ 1344) × (length (now (out .exit)) ≡ length (now (out .entry))) ⌝ }
 {
     if sets(r.op) {
-        return 64 + on_register(r, a, regs, ind, val, out, to);
+        on_register(r, a, regs, ind, val, out, to, behind);
+        return 64 + lent::behind(r);
     }
-    if lends(r.op) {
-        return 64 + on_beside(r, a, regs, ind, val, tind, tval, out, to);
-    }
-    on_plain(r, a, regs, ind, val, tind, tval, list, out, to);
-    64
+    on_call(r, a, regs, ind, val, tind, tval, list, out, to, behind);
+    64 + lent::behind(r)
 }
 
 // Sets cells of set a, or listed values.
@@ -337,14 +291,14 @@ fn arrange(r: Record, ind: &mut [u32; 4112], val: &mut [u32; 4112], list: &mut [
 // All registers to 0, and the first n cells blank.
 fn reset(
     r: Record,
-    regs: &mut [u64; 64],
+    regs: &mut [u64; 256],
     ind0: &mut [u32; 4112],
     val0: &mut [u32; 4112],
     ind1: &mut [u32; 4112],
     val1: &mut [u32; 4112],
 ) {
     if r.op == 0 {
-        regs::clear(regs);
+        words::clear(regs);
         cells::blank(ind0, r.n);
         cells::blank(val0, r.n);
         cells::blank(ind1, r.n);
@@ -355,7 +309,7 @@ fn reset(
 // Runs a record on set 0 or set 1.
 fn step(
     r: Record,
-    regs: &mut [u64; 64],
+    regs: &mut [u64; 256],
     ind0: &mut [u32; 4112],
     val0: &mut [u32; 4112],
     ind1: &mut [u32; 4112],
@@ -367,13 +321,14 @@ fn step(
     requires { ⌜ (r .b < 8) × (to + 1344 ≤ length (now out)) ⌝ }
     ensures { λ n. ⌜ (n ≤ 1344) × (length (now (out .exit)) ≡ length (now (out .entry))) ⌝ }
 {
+    let behind = to + 64;
     reset(r, regs, ind0, val0, ind1, val1);
     if r.a % 2 == 0 {
         arrange(r, ind0, val0, list);
-        return on_set(r, 0, regs, ind0, val0, ind1, val1, list, out, to);
+        return on_set(r, 0, regs, ind0, val0, ind1, val1, list, out, to, behind);
     }
     arrange(r, ind1, val1, list);
-    on_set(r, 1, regs, ind1, val1, ind0, val0, list, out, to)
+    on_set(r, 1, regs, ind1, val1, ind0, val0, list, out, to, behind)
 }
 
 fn blank_cells() -> [u32; 4112] {
@@ -386,7 +341,7 @@ fn blank_cells() -> [u32; 4112] {
 pub extern "C" fn probe_sparse(script: &[u8], out: &mut [u8]) -> usize
     ensures { λ n. ⌜ n ≤ length (now (out .exit)) ⌝ }
 {
-    let mut regs = [0u64; 64];
+    let mut regs = [0u64; 256];
     let mut ind0 = blank_cells();
     let mut val0 = blank_cells();
     let mut ind1 = blank_cells();

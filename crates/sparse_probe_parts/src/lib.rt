@@ -1,9 +1,8 @@
-// What a script of calls on sparse sets is made of (differential/FORMAT.md): registers, the calls by their numbers, answers, and what is
-// seen of lent cells.
+// What a script of calls on sparse sets is made of (differential/FORMAT.md): sets as registers, the calls by their numbers, answers, and
+// what is seen of lent cells.
 pub mod answer;
+pub mod calls;
 pub mod lent;
-pub mod pairs;
+pub mod look;
 pub mod regs;
 pub mod seen;
-pub mod single;
-pub mod values;

@@ -291,6 +291,8 @@ fn call(rnd: &mut Random, s: &Scene, side: &RustSide, op: u8, out: &mut Vec<Reco
         op::READY | op::PROPAGATE => listed(rnd, s, &mut r, out),
         op::CHUTES_INTO | op::VARIABLES_INTO => {
             let held = if side.plain.well() { side.held(&r) as u64 } else { 3 };
+            // a cell stands before the lent ones
+            r.b = r.b.max(1);
             r.lo = rnd.pick(&[held.saturating_sub(1), held, held, held + 1, 0, 152]);
             r.hi = (r.b as u64 + r.lo + 2).min(CELLS as u64);
         }
@@ -411,8 +413,8 @@ pub fn frame(rnd: &mut Random, side: &mut RustSide, made: &mut Made) -> (Vec<Rec
         }
         for r in more.drain(..) {
             let left = FRAME - records.len();
-            if left == 0 || answers.len() + r.answer_size() + ANSWER * left > ROOM {
-                assert!(r.op == op::DUMP || r.shown() > 0 || left == 0);
+            if left == 0 || answers.len() + answer_size(&r) + ANSWER * left > ROOM {
+                assert!(r.op == op::DUMP || shown(&r) > 0 || left == 0);
                 continue;
             }
             side.run(&r, &mut answers);

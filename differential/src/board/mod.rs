@@ -1,6 +1,5 @@
 //! The board and trials: their calls by scripts of records (FORMAT.md), compared byte by byte.
 
-mod compare;
 mod generate;
 mod paper;
 mod rust_side;
@@ -8,11 +7,13 @@ mod script;
 #[cfg(feature = "linked")]
 mod speed;
 
-use crate::ours::{Ours, Part};
+use crate::compare::{self, Fault, Shown, Side};
+use crate::ours::Part;
 use crate::random::Random;
+use crate::script::{Answer, Form, Record};
+use crate::tally::{Tally, grouped, list};
 use generate::Made;
-use rust_side::{Fault, RustSide};
-use std::time::Instant;
+use rust_side::RustSide;
 
 #[cfg(feature = "linked")]
 unsafe extern "C" {
@@ -20,93 +21,87 @@ unsafe extern "C" {
 }
 
 pub const PART: Part = Part {
-    program: "board_pipe",
+    program: "replay_board",
     room: 65536,
     #[cfg(feature = "linked")]
     linked: probe_board,
 };
 
-fn list(counts: impl Iterator<Item = (String, u64)>) -> String {
-    counts.filter(|c| c.1 > 0).map(|(name, many)| format!("{name}: {many}")).collect::<Vec<_>>().join(", ")
-}
-
 fn table(side: &RustSide, made: &Made) {
     let c = &side.counts;
-    for row in script::CALLS.iter().filter(|c| script::is_call(c.0)).collect::<Vec<_>>().chunks(3) {
-        let line: Vec<String> = row.iter().map(|x| format!("{:>26} {:>9}", x.1, c.calls[x.0 as usize])).collect();
-        println!("{}", line.join(" "));
-    }
     println!("accepted lists by length: {}", list(c.lists.iter().enumerate().map(|(k, n)| (k.to_string(), *n))));
-    let [ff, ft, tf, tt] = c.pairs;
-    println!("accepted lists by pair: (false, true): {ft}, (true, true): {tt}, (true, false): {tf}, (false, false): {ff}");
-    println!("calls within trials: {}; by open marks: {}", c.tried, list(c.depth.iter().enumerate().map(|(k, n)| (k.to_string(), *n))));
-    println!("by the paper and not by the Rust: a universe of all i32 values, registered as invalid: {} calls", c.all_values);
-    println!("refusals by number: {}", list(c.refused.iter().enumerate().map(|(k, n)| (k.to_string(), *n))));
-    println!("boards that aren't well formed: {}, with {} calls on them, each refused with 1", made.broken(), c.broken);
+    let [ff, ft, tf, tt] = c.pairs.map(grouped);
+    println!("accepted lists by pair: (false, true): {ft}; (true, true): {tt}; (true, false): {tf}; (false, false): {ff}");
+    println!("calls within trials: {}; by open marks: {}", grouped(c.tried), list(c.depth.iter().enumerate().map(|(k, n)| (k.to_string(), *n))));
+    println!("boards that aren't well formed: {}, with {} calls on them, each refused with 1", grouped(made.broken()), grouped(c.broken));
     println!("  by clause: {}", list(generate::CLAUSES.iter().zip(made.clauses).map(|(k, n)| (k.to_string(), n))));
     let least = script::on_board().iter().flat_map(|op| made.tried.iter().map(|t| t[*op as usize])).min().unwrap();
     println!("  each clause with each of {} calls, {least} times or more", script::on_board().len());
 }
 
-fn compare(seed: u64, calls: u64, boards: u64) -> bool {
-    let mut ours = Ours::start(&PART);
-    let mut side = RustSide::new();
-    let mut made = Made::new();
-    let began = Instant::now();
-    let found = compare::run(seed, calls, boards, &mut ours, &mut side, &mut made);
-    table(&side, &made);
-    let took = began.elapsed().as_secs_f64();
-    let many = compare::compared(&side);
-    match found {
-        None => {
-            println!("differential: {many} calls on boards compared, 0 differences (seed {seed}, ours {}, {took:.1} s)", ours.place());
-            true
-        }
-        Some(d) => {
-            d.print();
-            println!("differential: A DIFFERENCE after {many} calls on boards (seed {seed})");
-            false
-        }
+/// The Rust's board, and the boards that were made to be tried.
+struct Boards {
+    side: RustSide,
+    made: Made,
+}
+
+impl Side for Boards {
+    const NAME: &'static str = "board";
+    const PART: &'static Part = &PART;
+    const FORM: Form = script::FORM;
+
+    fn with(fault: Fault) -> Self {
+        let mut side = RustSide::new();
+        side.fault = fault;
+        Boards { side, made: Made::new() }
+    }
+
+    fn calls(&self) -> &[u64; 256] {
+        &self.side.counts.calls
+    }
+
+    fn rules(&self) -> Vec<(&'static str, u64)> {
+        let c = &self.side.counts;
+        let by_number = paper::RULES.iter().map(|(number, name)| (*name, c.refused[*number as usize]));
+        by_number.chain([("all i32 values", c.all_values), ("the order of `variables`", c.ordered)]).collect()
+    }
+
+    fn frame(&mut self, rnd: &mut Random) -> (Vec<Record>, Vec<u8>) {
+        generate::frame(rnd, &mut self.side, &mut self.made)
+    }
+
+    fn run(&mut self, r: &Record, out: &mut Vec<u8>) {
+        self.side.run(r, out);
+    }
+
+    /// The board, by the number over all of it, its count, and its marks with the flag.
+    fn shows(r: &Record, answer: &Answer) -> [Shown; 2] {
+        let [sum, count, marks] = answer.left;
+        [(r.op > script::op::VALUES).then_some((0, [sum, count, marks, 0])), None]
+    }
+
+    fn fresh() -> Vec<[u64; 4]> {
+        let [sum, count, marks] = paper::Plain::new().left();
+        vec![[sum, count, marks, 0]]
+    }
+
+    fn is_blank(r: &Record, _: &Answer, behind: &[u8]) -> bool {
+        script::is_blank(r, behind)
     }
 }
 
-/// The comparison must find a fault that is made on purpose, and cut it down to the call and the board that it is about.
-fn finds(fault: Fault, call: &str, records: usize, what: &str) -> bool {
-    let mut ours = Ours::start(&PART);
-    let mut side = RustSide::new();
-    side.fault = fault;
-    let found = compare::run(1, 200_000, 0, &mut ours, &mut side, &mut Made::new());
-    match found {
-        Some(d) if d.script.len() <= records && script::name(d.script[d.at].op) == call => {
-            println!("differential: a fault made on purpose, {what}, is found and cut down to {} records", d.script.len());
-            true
-        }
-        Some(d) => {
-            d.print();
-            println!("differential: a fault made on purpose, {what}, is found, and not cut down");
-            false
-        }
-        None => {
-            println!("differential: A FAULT MADE ON PURPOSE, {what}, IS NOT FOUND");
-            false
-        }
-    }
-}
-
-/// Frames with the Rust's answers, from a seed.
-fn sample(seed: u64, frames: u64) -> (Vec<u8>, usize, RustSide, Made) {
+/// Scripts from a seed, and the Rust's answers to them.
+fn sample(seed: u64, frames: u64) -> (Vec<u8>, Vec<u8>, RustSide, Made) {
     let mut rnd = Random::new(seed);
     let mut side = RustSide::new();
     let mut made = Made::new();
-    let mut out = Vec::new();
-    let mut bytes = 0;
+    let (mut scripts, mut answers) = (Vec::new(), Vec::new());
     for _ in 0..frames {
         let (records, rust) = generate::frame(&mut rnd, &mut side, &mut made);
-        out.extend_from_slice(&script::frame(&records));
-        out.extend_from_slice(&rust);
-        bytes += rust.len();
+        scripts.extend_from_slice(&script::frame(&records));
+        answers.extend_from_slice(&rust);
     }
-    (out, bytes, side, made)
+    (scripts, answers, side, made)
 }
 
 /// Whether a sample has every call, every refusal that a board gives, and every pair.
@@ -116,22 +111,29 @@ fn is_whole(side: &RustSide) -> bool {
 }
 
 /// The first sample that is whole, of the seeds from a fixed one on.
-pub fn record(file: &str, frames: u64) {
-    let (out, bytes, side, made) = (20261115..).map(|seed| sample(seed, frames)).find(|s| is_whole(&s.2)).unwrap();
-    std::fs::write(file, &out).expect("the file is written");
+pub fn record(frames: u64) -> (Vec<u8>, Vec<u8>) {
+    let (scripts, answers, side, made) = (20261115..).map(|seed| sample(seed, frames)).find(|s| is_whole(&s.2)).unwrap();
     table(&side, &made);
-    println!("{} records, {bytes} bytes, 0 differ", frames * script::FRAME as u64);
+    println!("{} records, {} bytes of answers", frames * script::FRAME as u64, answers.len());
+    (scripts, answers)
 }
 
 pub fn quick() -> bool {
-    finds(Fault::Pair, "propagate_alldiff", 10, "(true, false) after a stop in step 2") && finds(Fault::Flag, "restore", 6, "a flag that restoring clears") && compare(7, 100_000, 10_000)
+    compare::finds::<Boards>(Fault::Answer, "propagate_alldiff", 10, "(true, false) after a stop in step 2")
+        && compare::finds::<Boards>(Fault::State, "restore", 6, "a flag that restoring clears")
+        && compare::finds_refusals::<Boards>(6)
 }
 
-pub fn long(calls: Option<u64>, seed: u64) -> bool {
-    compare(seed, calls.unwrap_or(6_000_000), 1_000_000)
+/// So many calls, a twelfth of them propagations and a sixth within trials at the least, and so many boards that aren't well formed.
+pub fn compare(calls: u64, boards: u64, seed: u64) -> Tally {
+    let enough = |b: &Boards| {
+        let c = &b.side.counts;
+        b.compared() >= calls && 12 * c.lists.iter().sum::<u64>() >= calls && 6 * c.tried >= calls && b.made.broken() >= boards
+    };
+    compare::compare(seed, enough, |b: &Boards| table(&b.side, &b.made))
 }
 
 #[cfg(feature = "linked")]
-pub fn speed() -> bool {
-    speed::run()
+pub fn speed(bench: &mut crate::bench::Bench) {
+    speed::run(bench);
 }

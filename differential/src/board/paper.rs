@@ -2,6 +2,7 @@
 //! plain rows and words, not as either side computes it. Where the Rust differs by the paper's will, the rule is here too.
 
 use super::script::*;
+pub use crate::domain::paper::well as fits;
 
 pub const BROKEN: u64 = 1;
 pub const FULL: u64 = 2;
@@ -13,6 +14,19 @@ pub const REPEATED: u64 = 7;
 pub const TOO_LONG: u64 = 8;
 pub const EMPTY: u64 = 11;
 pub const NO_ROOM: u64 = 14;
+
+/// The refusals that the Rust doesn't know, by the names under which they are counted.
+pub const RULES: &[(u64, &str)] = &[
+    (BROKEN, "not well formed"),
+    (FULL, "a 65th destination"),
+    (TRIAL_OPEN, "registration while a mark is open"),
+    (TOO_DEEP, "a ninth mark"),
+    (NO_MARK, "no mark open"),
+    (UNKNOWN, "an unknown id listed"),
+    (REPEATED, "an id listed twice"),
+    (TOO_LONG, "a list over 64"),
+    (NO_ROOM, "no room"),
+];
 
 #[derive(Clone, Copy, PartialEq, Eq, Debug)]
 pub struct Row {
@@ -30,15 +44,6 @@ pub struct Plain {
     pub saved: [u64; WORDS],
     pub marks: u64,
     pub changed: bool,
-}
-
-/// A mask fits a universe of 1 to 128 values if it has no bit beyond them; one of the two invalid pairs if it is zero.
-pub fn fits(mask: u128, min: i32, max: i32) -> bool {
-    match max as i64 - min as i64 + 1 {
-        n @ 1..=127 => mask >> n == 0,
-        128 => true,
-        _ => mask == 0 && [(1, 0), (0, -1)].contains(&(min, max)),
-    }
 }
 
 impl Plain {
@@ -148,7 +153,7 @@ pub fn refusal(r: &Record, b: &Plain, list: &[u32], held: usize) -> Option<(u64,
         op::MARK if b.marks == MARKS as u64 => Some((TOO_DEEP, 0)),
         op::RESTORE | op::KEEP if b.marks == 0 => Some((NO_MARK, 0)),
         op::READY | op::PROPAGATE => list_refusal(b, list),
-        op::CHUTES_INTO | op::VARIABLES_INTO if r.part().len() < held => Some((NO_ROOM, 0)),
+        op::CHUTES_INTO | op::VARIABLES_INTO if part(r).len() < held => Some((NO_ROOM, 0)),
         _ => None,
     }
 }

@@ -3,19 +3,12 @@
 
 use super::paper::{self, Plain, Row};
 use super::script::*;
+use crate::compare::Fault;
+use crate::domain::rust_side::domain;
 use selen_oracle::constraints::gac_bitset::BitSetGAC;
 use selen_oracle::constraints::gac_hybrid::Variable;
 use selen_oracle::variables::domain::bitset_domain::BitSetDomain;
 use std::collections::HashMap;
-
-#[derive(Clone, Copy, PartialEq, Eq, Debug)]
-pub enum Fault {
-    None,
-    /// A pass that stops in step 2 tells of step 2 too.
-    Pair,
-    /// Restoring a mark clears the flag.
-    Flag,
-}
 
 #[derive(Clone)]
 pub struct Counts {
@@ -26,6 +19,8 @@ pub struct Counts {
     /// Calls on boards that aren't well formed.
     pub broken: u64,
     pub all_values: u64,
+    /// Accepted questions about all ids, which the original gives in no order.
+    pub ordered: u64,
     /// Accepted propagations: by the list's length, and by the pair (changed, consistent) as 2 * changed + consistent.
     pub lists: [u64; 65],
     pub pairs: [u64; 4],
@@ -35,7 +30,7 @@ pub struct Counts {
 
 impl Counts {
     pub fn new() -> Self {
-        Counts { calls: [0; 256], refused: [0; 16], tried: 0, broken: 0, all_values: 0, lists: [0; 65], pairs: [0; 4], depth: [0; 9] }
+        Counts { calls: [0; 256], refused: [0; 16], tried: 0, broken: 0, all_values: 0, ordered: 0, lists: [0; 65], pairs: [0; 4], depth: [0; 9] }
     }
 }
 
@@ -52,42 +47,6 @@ pub struct RustSide {
     at: u64,
     pub counts: Counts,
     pub fault: Fault,
-}
-
-fn refused(number: u64, place: u64) -> Answer {
-    Answer { kind: 255, number, count: place, ..Answer::default() }
-}
-
-fn done() -> Answer {
-    Answer { kind: 1, ..Answer::default() }
-}
-
-fn told(yes: bool) -> Answer {
-    Answer { kind: 2, value: yes as u64, ..Answer::default() }
-}
-
-fn counted(n: usize) -> Answer {
-    Answer { kind: 3, count: n as u64, ..Answer::default() }
-}
-
-fn valued(kind: u64, v: i32) -> Answer {
-    Answer { kind, value: bits(v) as u64, ..Answer::default() }
-}
-
-fn cursor(mask: u128, min: i32) -> Answer {
-    Answer { kind: 8, value: bits(min) as u64, lo: mask as u64, hi: (mask >> 64) as u64, ..Answer::default() }
-}
-
-/// A domain of the original with these fields, which fit.
-fn domain(mask: u128, min: i32, max: i32) -> BitSetDomain {
-    let mut d = match (min, max) {
-        (1, 0) => BitSetDomain::new_invalid(),
-        (0, -1) => BitSetDomain::new_from_values(Vec::new()),
-        _ => BitSetDomain::new_empty(min, max),
-    };
-    d.restore_mask(mask);
-    assert!((d.get_mask(), d.min_universe_value(), d.max_universe_value()) == (mask, min, max));
-    d
 }
 
 fn var(id: u32) -> Variable {
@@ -164,7 +123,7 @@ impl RustSide {
         if well && is_call(r.op) && !self.same {
             self.load();
         }
-        let list = &self.ids[r.list()].to_vec();
+        let list = &self.ids[list(r)].to_vec();
         let held = if well { self.held(r) } else { 0 };
         let mut cells = [BLANK; CELLS];
         let mut answer = match paper::refusal(r, &self.plain, list, held) {
@@ -173,7 +132,7 @@ impl RustSide {
                 if number == paper::BROKEN {
                     self.counts.broken += 1;
                 }
-                refused(number, place)
+                refused_at(number, place)
             }
             None if is_call(r.op) => self.call(r, list, &mut cells),
             None => self.set_part(r),
@@ -186,9 +145,8 @@ impl RustSide {
         }
         answer.left = self.plain.left();
         answer.put(r.op, out);
-        for c in &cells[..r.shown()] {
-            let w = if r.op == op::CHUTES_INTO { bits(*c as i32) } else { *c };
-            out.extend_from_slice(&(w as u64).to_le_bytes());
+        for c in &cells[..shown(r)] {
+            out.extend_from_slice(&cell(r, *c).to_le_bytes());
         }
         if r.op == op::DUMP {
             self.plain.dump(out);
@@ -208,7 +166,7 @@ impl RustSide {
     fn set_part(&mut self, r: &Record) -> Answer {
         let p = &mut self.plain;
         match r.op {
-            op::RAW_ROW => p.rows[r.row()] = Row { id: r.n, mask: r.mask(), min: r.v, max: r.w },
+            op::RAW_ROW => p.rows[row(r)] = Row { id: r.n, mask: r.mask(), min: r.v, max: r.w },
             op::RAW_WORD => p.saved[r.n as usize % WORDS] = r.lo,
             op::RAW_COUNT => p.count = r.n as u64,
             op::RAW_MARKS => p.marks = r.n as u64,
@@ -235,15 +193,16 @@ impl RustSide {
         if !(op::CHANGED..=op::READY).contains(&r.op) {
             self.store();
         }
-        if answer.kind == 255 {
+        if answer.is_refused() {
             self.counts.refused[answer.number as usize] += 1;
         }
         answer
     }
 
     fn by_rust(&mut self, r: &Record, list: &[u32], cells: &mut [u32; CELLS]) -> Answer {
+        self.counts.ordered += matches!(r.op, op::VARIABLES | op::NEXT_VARIABLE | op::VARIABLES_INTO) as u64;
         let (id, v) = (var(r.n), r.v);
-        let empty = refused(paper::EMPTY, 0);
+        let empty = refused(paper::EMPTY);
         match r.op {
             op::NEW => {
                 self.plain = Plain::new();
@@ -253,7 +212,7 @@ impl RustSide {
                 Answer::default()
             }
             op::ADD | op::ADD_VALUES => {
-                let values = self.values[r.part()].to_vec();
+                let values = self.values[part(r)].to_vec();
                 if paper::all_values(r, &values) {
                     self.counts.all_values += 1;
                     self.gac.add_variable(id, 0, 128);
@@ -290,7 +249,7 @@ impl RustSide {
             op::NEXT_CHUTE => {
                 let (mask, min) = self.cursors[r.b];
                 if mask == 0 {
-                    return Answer { kind: 10, ..Answer::default() };
+                    return no_more();
                 }
                 self.cursors[r.b].0 = mask & (mask - 1);
                 valued(9, (min as i64 + mask.trailing_zeros() as i64) as i32)
@@ -312,7 +271,7 @@ impl RustSide {
                     self.at += 1;
                     Answer { kind: 14, count: id as u64, ..Answer::default() }
                 }
-                None => Answer { kind: 10, ..Answer::default() },
+                None => no_more(),
             },
             op::VARIABLES_INTO => {
                 self.same_ids();
@@ -326,7 +285,7 @@ impl RustSide {
                 let (mut changed, consistent) = self.gac.propagate_alldiff(&list);
                 self.counts.lists[list.len()] += 1;
                 self.counts.pairs[2 * changed as usize + consistent as usize] += 1;
-                changed |= self.fault == Fault::Pair && !consistent;
+                changed |= self.fault == Fault::Answer && !consistent;
                 Answer { kind: 11, value: changed as u64, count: consistent as u64, ..Answer::default() }
             }
             op::MARK => {
@@ -340,7 +299,7 @@ impl RustSide {
             }
             op::RESTORE => {
                 self.gac.domains = self.copies.pop().expect("a mark is open");
-                if self.fault == Fault::Flag {
+                if self.fault == Fault::State {
                     self.gac.reset_changed_flag();
                 }
                 done()

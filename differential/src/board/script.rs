@@ -1,7 +1,7 @@
-//! Records of a board's script: bytes, and a text that a reader can follow (FORMAT.md).
+//! The records of a board's script (FORMAT.md).
 
-pub const RECORD: usize = 32;
-pub const ANSWER: usize = 64;
+pub use crate::script::*;
+
 pub const FRAME: usize = 512;
 pub const ROWS: usize = 64;
 pub const MARKS: usize = 8;
@@ -14,18 +14,6 @@ pub const BLANK: u32 = 0x5a5a_5a5a;
 pub const DUMP: usize = 10264;
 /// Room that the other side keeps for the largest answer, of what it has for the answers to a frame.
 pub const ROOM: usize = 65536 - (ANSWER + DUMP);
-
-#[derive(Clone, Copy, PartialEq, Eq, Debug)]
-pub struct Record {
-    pub op: u8,
-    pub a: usize,
-    pub b: usize,
-    pub v: i32,
-    pub w: i32,
-    pub n: u32,
-    pub lo: u64,
-    pub hi: u64,
-}
 
 pub mod op {
     pub const RESET: u8 = 0;
@@ -104,177 +92,91 @@ pub const CALLS: &[(u8, &str)] = &[
     (op::KEEP, "keep"),
 ];
 
+pub const FORM: Form = Form { frame: FRAME, calls: CALLS, answer_size, text, said };
+
 /// The calls that are given a board: what a board that isn't well formed is tried with.
 pub fn on_board() -> Vec<u8> {
     CALLS.iter().filter(|c| !c.1.starts_with('=') && c.0 != op::NEW && c.0 != op::NEXT_CHUTE).map(|c| c.0).collect()
-}
-
-pub fn name(op: u8) -> &'static str {
-    CALLS.iter().find(|c| c.0 == op).map_or("?", |c| c.1)
 }
 
 pub fn is_call(op: u8) -> bool {
     CALLS.iter().any(|c| c.0 == op && !c.1.starts_with('='))
 }
 
-/// A signed number as its distance from the least i32.
-pub fn bits(v: i32) -> u32 {
-    v as u32 ^ 0x8000_0000
+/// The row that a raw row is put at.
+pub fn row(r: &Record) -> usize {
+    8 * r.a + r.b
 }
 
-pub fn signed(bits: u32) -> i32 {
-    (bits ^ 0x8000_0000) as i32
+/// The list's ids: where in the run they begin and end.
+pub fn list(r: &Record) -> std::ops::Range<usize> {
+    let start = (r.lo % 128) as usize;
+    start..start + (r.hi % 97) as usize
 }
 
-impl Record {
-    pub fn new(op: u8) -> Self {
-        Record { op, a: 0, b: 0, v: 0, w: 0, n: 0, lo: 0, hi: 0 }
-    }
+/// The listed values, or the lent cells.
+pub fn part(r: &Record) -> std::ops::Range<usize> {
+    r.b..r.b + ((r.lo % 4096) as usize).min(MOST_CELLS)
+}
 
-    pub fn put(&self, out: &mut Vec<u8>) {
-        out.extend_from_slice(&[self.op, self.a as u8, self.b as u8, 0]);
-        out.extend_from_slice(&bits(self.v).to_le_bytes());
-        out.extend_from_slice(&bits(self.w).to_le_bytes());
-        out.extend_from_slice(&self.n.to_le_bytes());
-        out.extend_from_slice(&self.lo.to_le_bytes());
-        out.extend_from_slice(&self.hi.to_le_bytes());
-    }
-
-    /// The row that a raw row is put at.
-    pub fn row(&self) -> usize {
-        8 * self.a + self.b
-    }
-
-    pub fn mask(&self) -> u128 {
-        self.lo as u128 | (self.hi as u128) << 64
-    }
-
-    /// The list's ids: where in the run they begin and end.
-    pub fn list(&self) -> std::ops::Range<usize> {
-        let start = (self.lo % 128) as usize;
-        start..start + (self.hi % 97) as usize
-    }
-
-    /// The listed values, or the lent cells.
-    pub fn part(&self) -> std::ops::Range<usize> {
-        self.b..self.b + ((self.lo % 4096) as usize).min(MOST_CELLS)
-    }
-
-    /// How many cells stand behind the answer.
-    pub fn shown(&self) -> usize {
-        match self.op {
-            op::CHUTES_INTO | op::VARIABLES_INTO => ((self.hi % 4096) as usize).min(CELLS),
-            _ => 0,
-        }
-    }
-
-    /// How many bytes the answer takes.
-    pub fn answer_size(&self) -> usize {
-        ANSWER + if self.op == op::DUMP { DUMP } else { 8 * self.shown() }
-    }
-
-    /// Four numbers from the mask's bytes.
-    pub fn four(&self) -> [u32; 4] {
-        std::array::from_fn(|i| (self.mask() >> (32 * i)) as u32)
-    }
-
-    pub fn text(&self) -> String {
-        let (v, w, n) = (self.v, self.w, self.n);
-        let name = name(self.op).trim_start_matches('=');
-        match self.op {
-            op::RESET => "a new board, all registers to 0".into(),
-            op::IDS => format!("ids[{n}..{}] = {:?}", n + 4, self.four()),
-            op::VALUES => format!("values[{n}..{}] = {:?}", n + 4, self.four().map(signed)),
-            op::RAW_ROW => format!("rows[{}] = id {n}, the mask {} with the bounds {v} and {w}", self.row(), mask_text(self.mask())),
-            op::RAW_WORD => format!("saved[{}] = {:#x}", n % WORDS as u32, self.lo),
-            op::RAW_COUNT => format!("count = {n}"),
-            op::RAW_MARKS => format!("marks = {n}"),
-            op::RAW_FLAG => format!("changed = {}", n % 2 == 1),
-            op::ADD => format!("{name}({n}, {v}, {w})"),
-            op::ADD_VALUES => format!("{name}({n}, values[{:?}])", self.part()),
-            op::REMOVE | op::ASSIGN | op::BELOW | op::ABOVE => format!("{name}({n}, {v})"),
-            op::SIZE | op::IS_ASSIGNED | op::ASSIGNED_VALUE | op::IS_INCONSISTENT | op::BOUNDS => format!("{name}({n})"),
-            op::CHUTES => format!("c{} = {name}({n})", self.b),
-            op::NEXT_CHUTE => format!("c{}.{name}()", self.b),
-            op::CHUTES_INTO => format!("{name}({n}, cells[{:?}])", self.part()),
-            op::VARIABLES_INTO => format!("{name}(cells[{:?}])", self.part()),
-            op::RAW_CURSOR => format!("the cursor over ids stands at {n}"),
-            op::READY | op::PROPAGATE => format!("{name}(ids[{:?}])", self.list()),
-            _ => format!("{name}()"),
-        }
+/// How many cells stand behind the answer.
+pub fn shown(r: &Record) -> usize {
+    match r.op {
+        op::CHUTES_INTO | op::VARIABLES_INTO => ((r.hi % 4096) as usize).min(CELLS),
+        _ => 0,
     }
 }
 
-pub fn mask_text(mask: u128) -> String {
-    format!("{:#x}:{:016x}", (mask >> 64) as u64, mask as u64)
+/// How many bytes the answer takes.
+pub fn answer_size(r: &Record) -> usize {
+    ANSWER + if r.op == op::DUMP { DUMP } else { 8 * shown(r) }
 }
 
-/// The bytes of a frame: the records, and as many resets as are wanted to fill it.
+fn text(r: &Record) -> String {
+    let (v, w, n) = (r.v, r.w, r.n);
+    let name = name(CALLS, r.op).trim_start_matches('=');
+    match r.op {
+        op::RESET => "a new board, all registers to 0".into(),
+        op::IDS => format!("ids[{n}..{}] = {:?}", n + 4, r.four()),
+        op::VALUES => format!("values[{n}..{}] = {:?}", n + 4, r.four().map(signed)),
+        op::RAW_ROW => format!("rows[{}] = id {n}, the mask {} with the bounds {v} and {w}", row(r), mask_text(r.mask())),
+        op::RAW_WORD => format!("saved[{}] = {:#x}", n % WORDS as u32, r.lo),
+        op::RAW_COUNT => format!("count = {n}"),
+        op::RAW_MARKS => format!("marks = {n}"),
+        op::RAW_FLAG => format!("changed = {}", n % 2 == 1),
+        op::ADD => format!("{name}({n}, {v}, {w})"),
+        op::ADD_VALUES => format!("{name}({n}, values[{:?}])", part(r)),
+        op::REMOVE | op::ASSIGN | op::BELOW | op::ABOVE => format!("{name}({n}, {v})"),
+        op::SIZE | op::IS_ASSIGNED | op::ASSIGNED_VALUE | op::IS_INCONSISTENT | op::BOUNDS => format!("{name}({n})"),
+        op::CHUTES => format!("c{} = {name}({n})", r.b),
+        op::NEXT_CHUTE => format!("c{}.{name}()", r.b),
+        op::CHUTES_INTO => format!("{name}({n}, cells[{:?}])", part(r)),
+        op::VARIABLES_INTO => format!("{name}(cells[{:?}])", part(r)),
+        op::RAW_CURSOR => format!("the cursor over ids stands at {n}"),
+        op::READY | op::PROPAGATE => format!("{name}(ids[{:?}])", list(r)),
+        _ => format!("{name}()"),
+    }
+}
+
+/// The bytes of a frame.
 pub fn frame(records: &[Record]) -> Vec<u8> {
-    let mut out = Vec::with_capacity(FRAME * RECORD);
-    for r in records {
-        r.put(&mut out);
-    }
-    let reset = Record::new(op::RESET);
-    while out.len() < FRAME * RECORD {
-        reset.put(&mut out);
-    }
-    out
+    crate::script::frame(records, FRAME)
 }
 
-/// An answer in words.
-#[derive(Clone, Copy, PartialEq, Eq, Default)]
-pub struct Answer {
-    pub kind: u64,
-    pub number: u64,
-    pub count: u64,
-    pub value: u64,
-    pub lo: u64,
-    pub hi: u64,
-    /// The number over the whole board, its count, and its marks with the flag.
-    pub left: [u64; 3],
+/// An answer in words: what is said, what is left, and what stands behind it.
+fn said(_: &Record, answer: &Answer, behind: &[u8]) -> String {
+    let [sum, count, marks] = answer.left;
+    let said = format!("{}; the board has {count} rows, {} marks, changed {}, and the number {sum:016x}", answer.said(), marks << 1 >> 1, marks >> 63 == 1);
+    let words: Vec<u64> = behind.chunks(8).map(|c| u64::from_le_bytes(c.try_into().unwrap())).collect();
+    if words.is_empty() { said } else { format!("{said}; behind it {words:x?}") }
 }
 
-impl Answer {
-    pub fn put(&self, op: u8, out: &mut Vec<u8>) {
-        let head = op as u64 | self.kind << 8 | self.number << 16;
-        for w in [head, self.count, self.value, self.lo, self.hi].iter().chain(&self.left) {
-            out.extend_from_slice(&w.to_le_bytes());
-        }
-    }
+/// A cell as it stands behind an answer: chutes by their distance from the least i32, ids as they are.
+pub fn cell(r: &Record, cell: u32) -> u64 {
+    if r.op == op::CHUTES_INTO { bits(cell as i32) as u64 } else { cell as u64 }
+}
 
-    pub fn read(bytes: &[u8]) -> Answer {
-        let word = |i: usize| u64::from_le_bytes(bytes[8 * i..8 * i + 8].try_into().unwrap());
-        Answer {
-            kind: word(0) >> 8 & 255,
-            number: word(0) >> 16,
-            count: word(1),
-            value: word(2),
-            lo: word(3),
-            hi: word(4),
-            left: [word(5), word(6), word(7)],
-        }
-    }
-
-    pub fn text(&self) -> String {
-        let value = signed(self.value as u32);
-        let said = match self.kind {
-            0 => "nothing to tell".into(),
-            1 => "done".into(),
-            2 => if self.value == 1 { "yes".into() } else { "no".into() },
-            3 => format!("count {}", self.count),
-            4 => format!("value {value}"),
-            8 => format!("cursor {} over {value}", mask_text(self.lo as u128 | (self.hi as u128) << 64)),
-            9 => format!("next {value}"),
-            10 => "no more".into(),
-            11 => format!("({}, {})", self.value == 1, self.count == 1),
-            12 => format!("from {value} to {}", signed(self.lo as u32)),
-            13 => format!("a cursor at {}", self.count),
-            14 => format!("id {}", self.count),
-            255 => format!("refused {} at {}", self.number, self.count),
-            k => format!("kind {k}"),
-        };
-        let [sum, count, marks] = self.left;
-        format!("{said}; the board has {count} rows, {} marks, changed {}, and the number {sum:016x}", marks << 1 >> 1, marks >> 63 == 1)
-    }
+/// Whether all that stands behind an answer is as it was lent.
+pub fn is_blank(r: &Record, behind: &[u8]) -> bool {
+    behind.chunks(8).all(|c| c == cell(r, BLANK).to_le_bytes())
 }

@@ -148,7 +148,8 @@ fn step(rnd: &mut Random, side: &RustSide, out: &mut Vec<Record>) {
                 let (a, b) = bounds(rnd);
                 (mask(rnd, b as i64 - a as i64 + 1), a, b)
             };
-            (r.mask, r.v, r.w) = (m, a, b);
+            r.set_mask(m);
+            (r.v, r.w) = (a, b);
         }
         2 | 3 | 5 | 6 => {
             let (a, b) = if rnd.one_in(3) { near(rnd, side.fields(r.b)) } else { bounds(rnd) };
@@ -164,34 +165,34 @@ fn step(rnd: &mut Random, side: &RustSide, out: &mut Vec<Record>) {
                 let mut values = Record::new(10);
                 values.n = at as u32;
                 let wild = rnd.one_in(12);
-                values.mask = (0..4).fold(0, |m, i| {
+                values.set_mask((0..4).fold(0, |m, i| {
                     let v = if wild { value(rnd, (a, b)) } else { value(rnd, (a, b)).clamp(a.min(b), b.max(a)) };
                     m | (bits(v) as u128) << (32 * i)
-                });
+                }));
                 out.push(values);
                 at += 4;
             }
         }
         45 | 49 | 52 => {
-            r.mask = if rnd.one_in(3) { here.0 & mask(rnd, width) } else { mask(rnd, width) };
+            r.set_mask(if rnd.one_in(3) { here.0 & mask(rnd, width) } else { mask(rnd, width) });
             r.n = rnd.below(130) as u32;
         }
         59 => {
             r.v = rnd.pick(&[0, -64, i32::MIN, i32::MAX, i32::MAX - 1, i32::MAX - 63, i32::MAX - 64, i32::MAX - 126, i32::MAX - 127, i32::MAX - 128, here.1]);
             let fits = (i32::MAX as i64 - r.v as i64 + 1).min(128);
-            r.mask = if rnd.one_in(4) { mask(rnd, 128) } else { mask(rnd, fits) };
+            r.set_mask(if rnd.one_in(4) { mask(rnd, 128) } else { mask(rnd, fits) });
         }
         60 => {
             let (size, _) = side.sizes(r.a);
-            r.b = rnd.below(8) as usize;
+            r.b = 1 + rnd.below(7) as usize;
             r.n = rnd.pick(&[size.saturating_sub(1), size, size, size, size + 1, 0, 152]) as u32;
-            r.mask = (r.b + r.n as usize + 2).min(CELLS) as u128;
+            r.lo = (r.b + r.n as usize + 2).min(CELLS) as u64;
         }
         61 => {
             let (_, size) = side.sizes(r.a);
-            r.b = rnd.below(8) as usize;
+            r.b = 1 + rnd.below(7) as usize;
             r.n = rnd.pick(&[size.saturating_sub(1), size, size, size, size + 1, 0]) as u32;
-            r.mask = (r.b + r.n as usize + 2).min(BYTES) as u128;
+            r.lo = (r.b + r.n as usize + 2).min(BYTES) as u64;
         }
         _ => {}
     }
@@ -219,9 +220,11 @@ pub fn frame(rnd: &mut Random, side: &mut RustSide) -> (Vec<Record>, Vec<u8>) {
                 r.a = k;
                 let (a, b) = if rnd.one_in(4) { near(rnd, (0, a, b)) } else if rnd.one_in(5) { bounds(rnd) } else { (a, b) };
                 let width = b as i64 - a as i64 + 1;
-                (r.v, r.w, r.mask) = (a, b, mask(rnd, width) & full(width));
+                (r.v, r.w) = (a, b);
+                r.set_mask(mask(rnd, width) & full(width));
                 if rnd.one_in(8) {
-                    (r.mask, r.v, r.w) = rnd.pick(&[(0, 1, 0), (0, 0, -1)]);
+                    (r.lo, r.hi) = (0, 0);
+                    (r.v, r.w) = rnd.pick(&[(1, 0), (0, -1)]);
                 }
                 more.push(r);
             }
@@ -229,7 +232,7 @@ pub fn frame(rnd: &mut Random, side: &mut RustSide) -> (Vec<Record>, Vec<u8>) {
             step(rnd, side, &mut more);
         }
         for r in more {
-            let size = r.answer_size();
+            let size = answer_size(&r);
             let left = FRAME - records.len();
             if left == 0 || answers.len() + size + 64 * left > ROOM {
                 continue;

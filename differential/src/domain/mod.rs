@@ -1,17 +1,18 @@
 //! The bit domain: its calls by scripts of records (FORMAT.md), compared byte by byte.
 
-mod compare;
 mod generate;
 pub mod paper;
-mod rust_side;
+pub mod rust_side;
 mod script;
 #[cfg(feature = "linked")]
 mod speed;
 
-use crate::ours::{Ours, Part};
+use crate::compare::{self, Fault, Shown, Side};
+use crate::ours::Part;
 use crate::random::Random;
+use crate::script::{Answer, Form, Record};
+use crate::tally::Tally;
 use rust_side::RustSide;
-use std::time::Instant;
 
 #[cfg(feature = "linked")]
 unsafe extern "C" {
@@ -19,92 +20,79 @@ unsafe extern "C" {
 }
 
 pub const PART: Part = Part {
-    program: "probe_pipe",
+    program: "replay_domain",
     room: 65536,
     #[cfg(feature = "linked")]
     linked: probe_domain,
 };
 
-fn table(side: &RustSide) {
-    for row in script::CALLS.iter().filter(|c| !c.1.starts_with('=')).collect::<Vec<_>>().chunks(4) {
-        let line: Vec<String> = row.iter().map(|c| format!("{:>20} {:>9}", c.1, side.counts.calls[c.0 as usize])).collect();
-        println!("{}", line.join(" "));
-    }
-    for (i, (_, text)) in paper::RULES.iter().enumerate() {
-        println!("by the paper and not by the Rust: {text}: {} calls", side.counts.rules[i]);
-    }
-    let refused: Vec<String> = (0..16).filter(|k| side.counts.refused[*k] > 0).map(|k| format!("{k}: {}", side.counts.refused[k])).collect();
-    println!("refusals by number: {}", refused.join(", "));
-}
+impl Side for RustSide {
+    const NAME: &'static str = "domain";
+    const PART: &'static Part = &PART;
+    const FORM: Form = script::FORM;
 
-fn compare(seed: u64, calls: u64) -> bool {
-    let mut ours = Ours::start(&PART);
-    let mut side = RustSide::new();
-    let began = Instant::now();
-    let found = compare::run(seed, calls, &mut ours, &mut side);
-    table(&side);
-    let took = began.elapsed().as_secs_f64();
-    let many = compare::compared(&side);
-    match found {
-        None => {
-            println!("differential: {many} calls compared, 0 differences (seed {seed}, ours {}, {took:.1} s)", ours.place());
-            true
-        }
-        Some(d) => {
-            d.print();
-            println!("differential: A DIFFERENCE after {many} calls (seed {seed})");
-            false
-        }
+    fn with(fault: Fault) -> Self {
+        let mut side = RustSide::new();
+        side.fault = fault;
+        side
     }
-}
 
-/// The comparison must find a fault that is made on purpose, and cut it down to the call and the domain that it is about.
-fn finds_a_fault() -> bool {
-    let mut ours = Ours::start(&PART);
-    let mut side = RustSide::new();
-    side.fault = true;
-    let found = compare::run(1, 1_000_000, &mut ours, &mut side);
-    match found {
-        Some(d) if d.script.len() <= 2 && script::name(d.script[d.at].op) == "contains" => {
-            println!("differential: a fault made on purpose, `contains` at offset 64, is found and cut down to {} records", d.script.len());
-            true
-        }
-        Some(d) => {
-            d.print();
-            println!("differential: a fault made on purpose is found, and not cut down");
-            false
-        }
-        None => {
-            println!("differential: A FAULT MADE ON PURPOSE IS NOT FOUND");
-            false
-        }
+    fn calls(&self) -> &[u64; 256] {
+        &self.counts.calls
+    }
+
+    fn rules(&self) -> Vec<(&'static str, u64)> {
+        self.counts.by_rule(paper::RULES)
+    }
+
+    fn frame(&mut self, rnd: &mut Random) -> (Vec<Record>, Vec<u8>) {
+        generate::frame(rnd, self)
+    }
+
+    fn run(&mut self, r: &Record, out: &mut Vec<u8>) {
+        RustSide::run(self, r, out);
+    }
+
+    /// The domains have the first numbers, the cursors those after them.
+    fn shows(r: &Record, answer: &Answer) -> [Shown; 2] {
+        let register = if (56..60).contains(&r.op) { script::REGISTERS + r.b } else { r.a };
+        let [lo, hi, bounds] = answer.left;
+        [Some((register, [lo, hi, bounds, 0])), None]
+    }
+
+    fn fresh() -> Vec<[u64; 4]> {
+        vec![[0; 4]; 2 * script::REGISTERS]
+    }
+
+    fn is_blank(r: &Record, _: &Answer, behind: &[u8]) -> bool {
+        script::is_blank(r, behind)
     }
 }
 
-pub fn record(file: &str, frames: u64) {
+/// Scripts from a fixed seed, and the Rust's answers to them.
+pub fn record(frames: u64) -> (Vec<u8>, Vec<u8>) {
     let mut rnd = Random::new(20261115);
     let mut side = RustSide::new();
-    let mut out = Vec::new();
-    let mut bytes = 0;
+    let (mut scripts, mut answers) = (Vec::new(), Vec::new());
     for _ in 0..frames {
         let (records, rust) = generate::frame(&mut rnd, &mut side);
-        out.extend_from_slice(&script::frame(&records));
-        out.extend_from_slice(&rust);
-        bytes += rust.len();
+        scripts.extend_from_slice(&script::frame(&records));
+        answers.extend_from_slice(&rust);
     }
-    std::fs::write(file, &out).expect("the file is written");
-    println!("{} records, {bytes} bytes, 0 differ", frames * 256);
+    println!("{} records, {} bytes of answers", frames * 256, answers.len());
+    (scripts, answers)
 }
 
 pub fn quick() -> bool {
-    finds_a_fault() && compare(7, 5_000_000)
+    compare::finds::<RustSide>(Fault::Answer, "contains", 2, "`contains` at offset 64") && compare::finds_refusals::<RustSide>(2)
 }
 
-pub fn long(calls: Option<u64>, seed: u64) -> bool {
-    compare(seed, calls.unwrap_or(20_000_000))
+/// So many calls, crowding the limits.
+pub fn compare(calls: u64, seed: u64) -> Tally {
+    compare::compare::<RustSide>(seed, |side| side.compared() >= calls, |_| {})
 }
 
 #[cfg(feature = "linked")]
-pub fn speed() -> bool {
-    speed::run()
+pub fn speed(bench: &mut crate::bench::Bench) {
+    speed::run(bench);
 }

@@ -35,13 +35,12 @@ pub enum Rule {
     AllValues,
     /// A mask with a bit outside the universe is BadState; the Rust takes it.
     ForeignBit,
+    /// Lent cells or bytes that don't suffice: the Rust allocates.
+    NoRoom,
 }
 
-pub const RULES: [(Rule, &str); 3] = [
-    (Rule::Broken, "not well formed: refused with 1"),
-    (Rule::AllValues, "a universe of all i32 values: invalid, or refused with 9"),
-    (Rule::ForeignBit, "a restored mask with a bit outside the universe: refused with 12"),
-];
+/// The rules in their order, by the names under which they are counted.
+pub const RULES: &[&str] = &["not well formed", "all i32 values", "a restored bit outside the universe", "no room"];
 
 /// Does a rule stand in the Rust's place? `domain` is register a, `other` register b, `restored` the mask to be restored,
 /// `values` the listed values of a call that is given a list.

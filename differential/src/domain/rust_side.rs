@@ -3,7 +3,20 @@
 
 use super::paper::{self, Inputs, Rule};
 use super::script::*;
+use crate::compare::{Counts, Fault};
 use selen_oracle::variables::domain::bitset_domain::{BitSetDomain, BitSetDomainState};
+
+/// A domain of the original with these fields, which are well formed.
+pub fn domain(mask: u128, min: i32, max: i32) -> BitSetDomain {
+    let mut d = match (min, max) {
+        (1, 0) => BitSetDomain::new_invalid(),
+        (0, -1) => BitSetDomain::new_from_values(Vec::new()),
+        _ => BitSetDomain::new_empty(min, max),
+    };
+    d.restore_mask(mask);
+    assert!((d.get_mask(), d.min_universe_value(), d.max_universe_value()) == (mask, min, max));
+    d
+}
 
 /// A domain of the original, or fields that it can't hold.
 #[derive(Clone)]
@@ -21,17 +34,7 @@ impl Held {
     }
 
     fn of(mask: u128, min: i32, max: i32) -> Held {
-        if !paper::well(mask, min, max) {
-            return Held::Raw(mask, min, max);
-        }
-        let mut d = match (min, max) {
-            (1, 0) => BitSetDomain::new_invalid(),
-            (0, -1) => BitSetDomain::new_from_values(Vec::new()),
-            _ => BitSetDomain::new_empty(min, max),
-        };
-        d.restore_mask(mask);
-        assert!((d.get_mask(), d.min_universe_value(), d.max_universe_value()) == (mask, min, max));
-        Held::Rust(d)
+        if paper::well(mask, min, max) { Held::Rust(domain(mask, min, max)) } else { Held::Raw(mask, min, max) }
     }
 
     fn rust(&mut self) -> &mut BitSetDomain {
@@ -42,56 +45,22 @@ impl Held {
     }
 }
 
-/// How often each call was run, and how often each rule stood in.
-#[derive(Clone)]
-pub struct Counts {
-    pub calls: [u64; 256],
-    pub rules: [u64; paper::RULES.len()],
-    pub refused: [u64; 16],
-}
-
-impl Counts {
-    pub fn new() -> Self {
-        Counts { calls: [0; 256], rules: [0; paper::RULES.len()], refused: [0; 16] }
-    }
-}
-
 pub struct RustSide {
     domains: Vec<Held>,
     cursors: [(u128, i32); REGISTERS],
     states: [(u128, u64); REGISTERS],
     list: [i32; LISTED],
     pub counts: Counts,
-    /// A fault on purpose, to see that the comparison finds one.
-    pub fault: bool,
-}
-
-fn refused(number: u64) -> Answer {
-    Answer { kind: 255, number, ..Answer::default() }
-}
-
-fn done() -> Answer {
-    Answer { kind: 1, ..Answer::default() }
-}
-
-fn told(yes: bool) -> Answer {
-    Answer { kind: 2, value: yes as u64, ..Answer::default() }
-}
-
-fn counted(n: usize) -> Answer {
-    Answer { kind: 3, count: n as u64, ..Answer::default() }
-}
-
-fn valued(kind: u64, v: i32) -> Answer {
-    Answer { kind, value: bits(v) as u64, ..Answer::default() }
+    pub fault: Fault,
 }
 
 fn found(v: Option<i32>) -> Answer {
     v.map_or(refused(paper::EMPTY), |v| valued(4, v))
 }
 
-fn masked(mask: u128) -> Answer {
-    Answer { kind: 6, mask, ..Answer::default() }
+fn no_room(counts: &mut Counts) -> Answer {
+    counts.rules[Rule::NoRoom as usize] += 1;
+    refused(paper::NO_ROOM)
 }
 
 /// What stands over a cursor's smallest value: the original's iterator, begun from a domain that holds the cursor's mask.
@@ -109,7 +78,7 @@ impl RustSide {
             states: [(0, 0); REGISTERS],
             list: [i32::MIN; LISTED],
             counts: Counts::new(),
-            fault: false,
+            fault: Fault::None,
         }
     }
 
@@ -141,7 +110,7 @@ impl RustSide {
     pub fn run(&mut self, r: &Record, out: &mut Vec<u8>) {
         self.counts.calls[r.op as usize] += 1;
         let values = if matches!(r.op, 8 | 9) { self.listed(r) } else { Vec::new() };
-        let restored = if r.op == 51 { self.states[r.b].0 } else { r.mask };
+        let restored = if r.op == 51 { self.states[r.b].0 } else { r.mask() };
         let rule = paper::rule(&Inputs {
             record: r,
             domain: self.fields(r.a),
@@ -153,16 +122,12 @@ impl RustSide {
         let mut lent = Vec::new();
         let mut answer = match rule {
             Some(rule) => {
-                let which = paper::RULES.iter().position(|x| x.0 == rule).unwrap();
-                self.counts.rules[which] += 1;
+                self.counts.rules[rule as usize] += 1;
                 self.blank(r, &mut lent);
                 self.by_rule(r, rule)
             }
             None => self.by_rust(r, values, restored, &mut lent),
         };
-        if answer.kind == 255 {
-            self.counts.refused[answer.number as usize] += 1;
-        }
         answer.left = if (56..60).contains(&r.op) {
             let (mask, min) = self.cursors[r.b];
             [mask as u64, (mask >> 64) as u64, bits(min) as u64]
@@ -176,7 +141,7 @@ impl RustSide {
 
     /// The lent area as it came.
     fn blank(&self, r: &Record, lent: &mut Vec<u8>) {
-        for _ in 0..r.shown() {
+        for _ in 0..shown(r) {
             if r.op == 60 {
                 lent.extend_from_slice(&(bits(BLANK_CELL) as u64).to_le_bytes());
             } else {
@@ -189,6 +154,7 @@ impl RustSide {
         match rule {
             Rule::Broken => refused(paper::BROKEN),
             Rule::ForeignBit => refused(paper::BAD_STATE),
+            Rule::NoRoom => refused(paper::NO_ROOM),
             Rule::AllValues => match r.op {
                 5 | 6 | 9 => refused(paper::TOO_WIDE),
                 _ => {
@@ -222,7 +188,7 @@ impl RustSide {
                 return Answer::default();
             }
             1 => {
-                self.domains[a] = Held::of(r.mask, v, r.w);
+                self.domains[a] = Held::of(r.mask(), v, r.w);
                 return Answer::default();
             }
             2 => return self.put(a, BitSetDomain::new(v, r.w)),
@@ -239,12 +205,12 @@ impl RustSide {
             10 => {
                 let at = r.n as usize;
                 if at < LISTED - 3 {
-                    self.list[at..at + 4].copy_from_slice(&r.values());
+                    self.list[at..at + 4].copy_from_slice(&r.four().map(signed));
                 }
                 return Answer::default();
             }
             52 => {
-                self.states[b] = (r.mask, r.n as u64);
+                self.states[b] = (r.mask(), r.n as u64);
                 return Answer::default();
             }
             57 => return self.next(b),
@@ -253,7 +219,7 @@ impl RustSide {
                 return counted(begun(mask, min).iter().size_hint().0);
             }
             59 => {
-                self.cursors[b] = (r.mask, v);
+                self.cursors[b] = (r.mask(), v);
                 return Answer::default();
             }
             _ => {}
@@ -262,7 +228,7 @@ impl RustSide {
             (Held::Rust(e), 40..=44) => e.clone(),
             _ => BitSetDomain::new_invalid(),
         };
-        let fault = self.fault;
+        let fault = self.fault == Fault::Answer;
         let (mask, min, _) = self.fields(a);
         let d = self.domains[a].rust();
         match r.op {
@@ -302,7 +268,7 @@ impl RustSide {
             42 => told(d.is_subset_of(&other)),
             43 => told(d.equals(&other)),
             44 => d.union_mask(&other).map_or(refused(paper::OTHER_UNIVERSE), masked),
-            45 => told(d.remove_by_mask(r.mask)),
+            45 => told(d.remove_by_mask(r.mask())),
             46 => masked(d.get_mask()),
             47 => masked(d.current_mask()),
             48 => valued(4, d.get_min_val()),
@@ -313,7 +279,7 @@ impl RustSide {
             50 => {
                 let s = d.save_state();
                 self.states[b] = (s.mask, s.size as u64);
-                Answer { kind: 7, mask: s.mask, count: s.size as u64, ..Answer::default() }
+                Answer { kind: 7, count: s.size as u64, ..masked(s.mask) }
             }
             51 => {
                 d.restore_state(&BitSetDomainState { mask: restored, size: self.states[b].1 as usize });
@@ -322,9 +288,9 @@ impl RustSide {
             56 => {
                 // What the iterator goes over is all that is seen of it: the domain's values, from its mask and smallest value.
                 let held: Vec<i32> = d.iter().collect();
-                assert!(mask_of(&held, min) == mask);
+                assert!(mask_over(&held, min) == mask);
                 self.cursors[b] = (mask, min);
-                Answer { value: bits(min) as u64, mask, kind: 8, ..Answer::default() }
+                cursor(mask, min)
             }
             60 => {
                 let values = d.to_vec();
@@ -334,10 +300,10 @@ impl RustSide {
                 if fits {
                     cells[b..b + values.len()].copy_from_slice(&values);
                 }
-                for c in &cells[..r.shown()] {
+                for c in &cells[..shown(r)] {
                     lent.extend_from_slice(&(bits(*c) as u64).to_le_bytes());
                 }
-                if fits { counted(values.len()) } else { refused(paper::NO_ROOM) }
+                if fits { counted(values.len()) } else { no_room(&mut self.counts) }
             }
             61 => {
                 let text = d.to_string();
@@ -347,8 +313,8 @@ impl RustSide {
                 if fits {
                     bytes[b..b + text.len()].copy_from_slice(text.as_bytes());
                 }
-                lent.extend_from_slice(&bytes[..r.shown()]);
-                if fits { counted(text.len()) } else { refused(paper::NO_ROOM) }
+                lent.extend_from_slice(&bytes[..shown(r)]);
+                if fits { counted(text.len()) } else { no_room(&mut self.counts) }
             }
             _ => Answer::default(),
         }
@@ -360,16 +326,16 @@ impl RustSide {
         let d = begun(mask, min);
         let mut it = d.iter();
         match it.next() {
-            None => Answer { kind: 10, ..Answer::default() },
+            None => no_more(),
             Some(v) => {
                 let rest: Vec<i32> = it.collect();
-                self.cursors[b] = (mask_of(&rest, min), min);
+                self.cursors[b] = (mask_over(&rest, min), min);
                 valued(9, v)
             }
         }
     }
 }
 
-fn mask_of(values: &[i32], min: i32) -> u128 {
+fn mask_over(values: &[i32], min: i32) -> u128 {
     values.iter().map(|v| 1u128 << (*v as i64 - min as i64)).fold(0, |m, bit| m | bit)
 }

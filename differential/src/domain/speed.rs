@@ -1,9 +1,9 @@
 //! Times of the checked calls and of the original's, in one process, over the same inputs: minima of many runs, per call.
 
+use crate::bench::{Bench, Least, Limit, least};
 use crate::random::Random;
 use selen_oracle::variables::domain::bitset_domain::BitSetDomain;
 use std::hint::black_box;
-use std::time::Instant;
 
 macro_rules! on_values {
     ($($name:ident)*) => { unsafe extern "C" { $(fn $name(lo: u64, hi: u64, min: i32, max: i32, values: *const i32, many: usize) -> u64;)* } };
@@ -128,21 +128,8 @@ fn to_vec(ds: &[BitSetDomain]) -> u64 {
     ds.iter().fold(0, |sum, d| sum.wrapping_add(black_box(d.to_vec()).len() as u64))
 }
 
-/// The least times of both, taken in turns, and what they answered.
-fn least(ours: &dyn Fn() -> u64, rust: &dyn Fn() -> u64) -> (f64, f64, bool) {
-    let time = |f: &dyn Fn() -> u64| {
-        let began = Instant::now();
-        let said = black_box(f());
-        (began.elapsed().as_nanos() as f64, said)
-    };
-    let (mut a, mut b, mut same) = (f64::MAX, f64::MAX, true);
-    for _ in 0..4000 {
-        let (x, p) = time(ours);
-        let (y, q) = time(rust);
-        (a, b, same) = (a.min(x), b.min(y), same && p == q);
-    }
-    (a, b, same)
-}
+/// How often each is timed.
+const RUNS: usize = 4000;
 
 struct Inputs {
     lo: Vec<u64>,
@@ -174,71 +161,61 @@ fn inputs() -> Inputs {
     i
 }
 
-pub fn run() -> bool {
+pub fn run(bench: &mut Bench) {
     let i = inputs();
     let mut rnd = Random::new(5);
     let about: Vec<i32> = (0..128).map(|_| rnd.below(136) as i32 - 4).collect();
     let up: Vec<i32> = (0..128).map(|k| k - 4).collect();
     let down: Vec<i32> = up.iter().rev().copied().collect();
     let held: usize = i.rust.iter().map(|d| d.size()).sum();
-    let mut good = true;
-    let mut row = |name: &str, per: usize, (ours, rust, same): (f64, f64, bool)| {
-        good &= same;
-        println!(
-            "{name:>24} {:>7.2} ns {:>7.2} ns {:>6.2}{}",
-            ours / per as f64,
-            rust / per as f64,
-            ours / rust,
-            if same { "" } else { "  THE SUMS DIFFER" }
-        );
-    };
-    println!("{:>24} {:>10} {:>10} {:>6}", "", "ours", "the Rust", "ratio");
+    bench.table("Bit domains: 256 of them, half over 128 values and the others over 1 to 128; the least of 4,000 runs, per call", "call");
+    let mut row = |name: &str, least: Least| bench.row(name, least, Limit::Times(2.0));
 
     let values = |f: OnValues, g: fn(BitSetDomain, &[i32]) -> u64, values: &[i32]| {
         let all = |one: &dyn Fn(usize) -> u64| (0..i.rust.len()).fold(0u64, |sum, k| sum.rotate_left(1) ^ one(k));
         least(
-            &|| all(&|k| unsafe { f(i.lo[k], i.hi[k], i.min[k], i.max[k], values.as_ptr(), values.len()) }),
-            &|| all(&|k| g(i.rust[k].clone(), black_box(values))),
+            RUNS,
+            &mut || all(&|k| unsafe { f(i.lo[k], i.hi[k], i.min[k], i.max[k], values.as_ptr(), values.len()) }),
+            &mut || all(&|k| g(i.rust[k].clone(), black_box(values))),
         )
+        .per(256 * 128)
     };
-    let calls = 256 * 128;
-    row("remove", calls, values(bench_remove, remove, &about));
-    row("insert", calls, values(bench_insert, insert, &about));
-    row("contains, one domain", calls, values(bench_contains, contains, &about));
-    row("remove_below, rising", calls, values(bench_remove_below, remove_below, &up));
-    row("remove_below, any", calls, values(bench_remove_below, remove_below, &about));
-    row("remove_above, falling", calls, values(bench_remove_above, remove_above, &down));
-    row("remove_above, any", calls, values(bench_remove_above, remove_above, &about));
-    row("remove_all_but, one d.", calls, values(bench_remove_all_but, remove_all_but, &about));
+    row("remove", values(bench_remove, remove, &about));
+    row("insert", values(bench_insert, insert, &about));
+    row("contains, one domain: one test for all", values(bench_contains, contains, &about));
+    row("remove_below, rising thresholds", values(bench_remove_below, remove_below, &up));
+    row("remove_below, any", values(bench_remove_below, remove_below, &about));
+    row("remove_above, falling thresholds", values(bench_remove_above, remove_above, &down));
+    row("remove_above, any", values(bench_remove_above, remove_above, &about));
+    row("remove_all_but, one domain: one test for all", values(bench_remove_all_but, remove_all_but, &about));
 
+    // forty times over, so that one time is long enough to take
+    let all = |one: &dyn Fn() -> u64| (0..40).fold(0u64, |sum, _| sum.rotate_left(1) ^ one());
     let domains = |f: OnDomains, g: fn(&[BitSetDomain]) -> u64| {
-        // forty times over, so that one time is long enough to take
-        let all = |one: &dyn Fn() -> u64| (0..40).fold(0u64, |sum, _| sum.rotate_left(1) ^ one());
         least(
-            &|| all(&|| unsafe { f(i.lo.as_ptr(), 256, i.hi.as_ptr(), 256, i.min.as_ptr(), 256, i.max.as_ptr(), 256) }),
-            &|| all(&|| g(black_box(&i.rust))),
+            RUNS,
+            &mut || all(&|| unsafe { f(i.lo.as_ptr(), 256, i.hi.as_ptr(), 256, i.min.as_ptr(), 256, i.max.as_ptr(), 256) }),
+            &mut || all(&|| g(black_box(&i.rust))),
         )
     };
     let own: Vec<i32> = (0..256).map(|k| i.min[k] + rnd.below(130) as i32 - 1).collect();
-    let each = {
-        let all = |one: &dyn Fn() -> u64| (0..40).fold(0u64, |sum, _| sum.rotate_left(1) ^ one());
-        least(
-            &|| all(&|| unsafe { bench_contains_each(i.lo.as_ptr(), 256, i.hi.as_ptr(), 256, i.min.as_ptr(), 256, i.max.as_ptr(), 256, own.as_ptr(), 256) }),
-            &|| all(&|| contains_each(black_box(&i.rust), black_box(&own))),
-        )
-    };
-    row("contains, each its own", 40 * 256, each);
-    row("size", 40 * 256, domains(bench_size, size));
-    row("min", 40 * 256, domains(bench_min, min));
-    row("max", 40 * 256, domains(bench_max, max));
-    row("is_fixed", 40 * 256, domains(bench_is_fixed, is_fixed));
-    row("iteration, per value", 40 * held, domains(bench_iter, iter));
-
-    let cells = std::cell::RefCell::new([0i32; 128]);
-    let vec = least(
-        &|| unsafe { bench_to_vec(i.lo.as_ptr(), 256, i.hi.as_ptr(), 256, i.min.as_ptr(), 256, i.max.as_ptr(), 256, cells.borrow_mut().as_mut_ptr(), 128) },
-        &|| to_vec(black_box(&i.rust)),
+    let each = least(
+        RUNS,
+        &mut || all(&|| unsafe { bench_contains_each(i.lo.as_ptr(), 256, i.hi.as_ptr(), 256, i.min.as_ptr(), 256, i.max.as_ptr(), 256, own.as_ptr(), 256) }),
+        &mut || all(&|| contains_each(black_box(&i.rust), black_box(&own))),
     );
-    row("to_vec, per value", held, vec);
-    good
+    row("contains, another domain each time", each.per(40 * 256));
+    row("size", domains(bench_size, size).per(40 * 256));
+    row("min", domains(bench_min, min).per(40 * 256));
+    row("max", domains(bench_max, max).per(40 * 256));
+    row("is_fixed", domains(bench_is_fixed, is_fixed).per(40 * 256));
+    row("iteration, per value", domains(bench_iter, iter).per(40 * held));
+
+    let mut cells = [0i32; 128];
+    let vec = least(
+        RUNS,
+        &mut || unsafe { bench_to_vec(i.lo.as_ptr(), 256, i.hi.as_ptr(), 256, i.min.as_ptr(), 256, i.max.as_ptr(), 256, cells.as_mut_ptr(), 128) },
+        &mut || to_vec(black_box(&i.rust)),
+    );
+    row("to_vec, per value", vec.per(held));
 }

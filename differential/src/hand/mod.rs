@@ -1,15 +1,17 @@
 //! The forms with a proof by hand: removal through a reference, and a batch of closings, by value and lent. Frames of 8,192 bytes
-//! (FORMAT.md) go to both sides, and every answer and every state is compared.
+//! (FORMAT.md) go to both sides, and every answer and every state is compared; a refusal must leave the state as it was.
 
 #[cfg(feature = "linked")]
 mod speed;
 
+use crate::compare::Fault;
 use crate::domain::paper::{BROKEN, well};
+use crate::domain::rust_side::domain;
 use crate::ours::{Ours, Part};
 use crate::random::Random;
+use crate::tally::{self, ByNumber, Tally, grouped};
 use selen_oracle::constraints::gac_bitset::BitSetGAC;
 use selen_oracle::constraints::gac_hybrid::Variable;
-use selen_oracle::variables::domain::bitset_domain::BitSetDomain;
 use std::time::Instant;
 
 #[cfg(feature = "linked")]
@@ -76,6 +78,7 @@ fn random_mask(rnd: &mut Random) -> u128 {
     }
 }
 
+#[derive(Default)]
 pub struct Counts {
     pub removals: u64,
     pub others: u64,
@@ -83,12 +86,30 @@ pub struct Counts {
     pub closings: u64,
     pub unknown: u64,
     pub broken: u64,
+    /// Refusals of ours, by number.
+    pub refused: ByNumber,
 }
 
-/// A frame of removals and its answers.
-fn removals(rnd: &mut Random, counts: &mut Counts) -> (Vec<u8>, Vec<u64>) {
+/// An answer in a frame's answers: the word at which it stands, from which number on it is a refusal, and the words after it as they are if
+/// the call changes nothing.
+struct Unit {
+    at: usize,
+    refused: u64,
+    before: Vec<u64>,
+}
+
+/// A frame, the Rust's answers to it, and where they stand.
+struct Asked {
+    frame: Vec<u8>,
+    answers: Vec<u64>,
+    units: Vec<Unit>,
+}
+
+/// A frame of removals.
+fn removals(rnd: &mut Random, counts: &mut Counts) -> Asked {
     let mut frame = vec![0u8; FRAME];
     let mut answers = Vec::new();
+    let mut units = Vec::new();
     for i in 0..REMOVALS {
         let (mut min, mut max) = universe(rnd);
         let mut mask = random_mask(rnd);
@@ -104,15 +125,11 @@ fn removals(rnd: &mut Random, counts: &mut Counts) -> (Vec<u8>, Vec<u64>) {
         put(&mut frame, 5 + 4 * i, mask as u64);
         put(&mut frame, 6 + 4 * i, (mask >> 64) as u64);
         put(&mut frame, 7 + 4 * i, bits(min) | bits(max) << 32);
+        units.push(Unit { at: answers.len(), refused: 256, before: vec![mask as u64, (mask >> 64) as u64, bits(min) | bits(max) << 32] });
         let mut answer = 256 + BROKEN;
         if op == 0 { counts.removals += 1 } else { counts.others += 1 }
         if well(mask, min, max) {
-            let mut d = match (min, max) {
-                (1, 0) => BitSetDomain::new_invalid(),
-                (0, -1) => BitSetDomain::new_from_values(Vec::new()),
-                _ => BitSetDomain::new_empty(min, max),
-            };
-            d.restore_mask(mask);
+            let mut d = domain(mask, min, max);
             answer = match op {
                 0 => d.remove(v) as u64,
                 1 => d.insert(v) as u64,
@@ -124,9 +141,9 @@ fn removals(rnd: &mut Random, counts: &mut Counts) -> (Vec<u8>, Vec<u64>) {
         } else {
             counts.broken += 1;
         }
-        answers.extend([answer, mask as u64, (mask >> 64) as u64, bits(min) ^ bits(max) << 32]);
+        answers.extend([answer, mask as u64, (mask >> 64) as u64, bits(min) | bits(max) << 32]);
     }
-    (frame, answers)
+    Asked { frame, answers, units }
 }
 
 /// A destination as it was registered.
@@ -149,8 +166,15 @@ fn masks(gac: &BitSetGAC, rows: &[Row]) -> Vec<u64> {
     words
 }
 
-/// A frame of a batch and its answers. With `fault` the Rust's side forgets the eighth yes.
-fn batch(rnd: &mut Random, counts: &mut Counts, fault: bool) -> (Vec<u8>, Vec<u64>) {
+/// The flag and all masks of a board.
+fn state(gac: &BitSetGAC, rows: &[Row]) -> Vec<u64> {
+    let mut words = vec![gac.domains_changed() as u64];
+    words.extend(masks(gac, rows));
+    words
+}
+
+/// A frame of a batch, by value and lent. With a fault in its answer the Rust's side forgets the eighth yes.
+fn batch(rnd: &mut Random, counts: &mut Counts, fault: Fault) -> Asked {
     let mut frame = vec![0u8; FRAME];
     let count = match rnd.below(6) {
         0 => 0,
@@ -183,6 +207,7 @@ fn batch(rnd: &mut Random, counts: &mut Counts, fault: bool) -> (Vec<u8>, Vec<u6
         }
     }
     gac.reset_changed_flag();
+    let before = state(&gac, &rows);
     let mut yes = 0;
     for i in 0..CLOSINGS as u64 {
         let known = i < n && !rows.is_empty() && !rnd.one_in(5);
@@ -210,59 +235,98 @@ fn batch(rnd: &mut Random, counts: &mut Counts, fault: bool) -> (Vec<u8>, Vec<u6
     }
     counts.batches += 1;
     if broken {
-        counts.broken += 1;
+        counts.broken += 2;
         yes = 65536 + BROKEN;
-    } else if fault && yes >= 8 {
+    } else if fault == Fault::Answer && yes >= 8 {
         yes -= 1;
     }
-    let mut one = vec![yes, gac.domains_changed() as u64];
-    one.extend(masks(&gac, &rows));
-    let mut answers = one.clone();
-    answers.extend(one);
-    (frame, answers)
+    let mut one = vec![yes];
+    one.extend(state(&gac, &rows));
+    let units = [0, one.len()].map(|at| Unit { at, refused: 65536, before: before.clone() }).into();
+    Asked { frame, answers: one.repeat(2), units }
 }
 
-/// The frames of both kinds in turn, until there were so many of each; the first frame that differs.
-fn compare(seed: u64, removed: u64, batched: u64, fault: bool) -> bool {
-    let mut ours = Ours::start(&PART);
-    let mut rnd = Random::new(seed);
-    let mut counts = Counts { removals: 0, others: 0, batches: 0, closings: 0, unknown: 0, broken: 0 };
-    let began = Instant::now();
-    let mut differ = None;
-    while differ.is_none() && (counts.removals < removed || counts.batches < batched) {
-        let (frame, answers) = if counts.batches < batched && (counts.removals >= removed || rnd.one_in(2)) {
-            batch(&mut rnd, &mut counts, fault)
-        } else {
-            removals(&mut rnd, &mut counts)
-        };
-        let want: Vec<u8> = answers.iter().flat_map(|w| w.to_le_bytes()).collect();
-        let got = ours.run(&frame, want.len());
-        if got != want {
-            let at = (0..want.len() / 8).find(|k| got[8 * k..8 * k + 8] != want[8 * k..8 * k + 8]).unwrap_or(0);
-            let word = |b: &[u8]| u64::from_le_bytes(b[8 * at..8 * at + 8].try_into().unwrap());
-            differ = Some((frame[0], at, word(&got), word(&want)));
+/// On both sides alike: a refusal that changed the first word of the state.
+fn spoil(asked: &Asked, words: &mut [u64], fault: Fault) {
+    for unit in &asked.units {
+        if fault == Fault::Changed && words[unit.at] >= unit.refused {
+            words[unit.at + 1] ^= 1;
         }
     }
-    let Counts { removals, others, batches, closings, unknown, broken } = counts;
-    println!("hand: {removals} removals and {others} other calls through a reference; {batches} batches of {closings} closings, {unknown} of them of unknown ids; {broken} refused as broken");
-    match differ {
-        None => println!("differential: 0 differences (seed {seed}, ours {}, {:.1} s)", ours.place(), began.elapsed().as_secs_f64()),
-        Some((kind, at, got, want)) => println!("differential: {} in a frame of {}: word {at} is {got:#x}, and the Rust has {want:#x}", if fault { "a fault made on purpose is found" } else { "A DIFFERENCE" }, if kind == 0 { "removals" } else { "a batch" }),
+}
+
+/// The first word that differs, or that a refusal of ours left changed, with what it should be. Refusals of ours are counted by number.
+fn first(asked: &Asked, ours: &[u64], rust: &[u64], refused: &mut ByNumber) -> Option<(usize, u64, &'static str)> {
+    if let Some(at) = (0..rust.len()).find(|k| ours.get(*k) != Some(&rust[*k])) {
+        return Some((at, rust[at], "a difference"));
     }
-    differ.is_none()
+    for unit in asked.units.iter().filter(|u| ours[u.at] >= u.refused) {
+        refused[(ours[unit.at] - unit.refused) as usize % 16] += 1;
+        if let Some(k) = (0..unit.before.len()).find(|k| ours[unit.at + 1 + k] != unit.before[*k]) {
+            return Some((unit.at + 1 + k, unit.before[k], "a refusal that changed the state"));
+        }
+    }
+    None
 }
 
+/// The frames of both kinds in turn, until there were so many of each, or one differs: what is wrong there.
+fn run(seed: u64, removed: u64, batched: u64, fault: Fault, ours: &mut Ours, counts: &mut Counts) -> Option<String> {
+    let mut rnd = Random::new(seed);
+    while counts.removals < removed || counts.batches < batched {
+        let asked = if counts.batches < batched && (counts.removals >= removed || rnd.one_in(2)) {
+            batch(&mut rnd, counts, fault)
+        } else {
+            removals(&mut rnd, counts)
+        };
+        let got = ours.run(&asked.frame, 8 * asked.answers.len());
+        let mut got: Vec<u64> = got.chunks(8).map(|w| u64::from_le_bytes(w.try_into().unwrap())).collect();
+        let mut want = asked.answers.clone();
+        spoil(&asked, &mut got, fault);
+        spoil(&asked, &mut want, fault);
+        if let Some((at, want, what)) = first(&asked, &got, &want, &mut counts.refused) {
+            let kind = if asked.frame[0] == 0 { "removals" } else { "a batch" };
+            return Some(format!("{what} in a frame of {kind}: word {at} is {:#x}, and should be {want:#x}", got.get(at).copied().unwrap_or_default()));
+        }
+    }
+    None
+}
+
+/// So many removals, and so many batches, each by value and lent.
+pub fn compare(removed: u64, batched: u64, seed: u64) -> Tally {
+    let mut ours = Ours::start(&PART);
+    let mut counts = Counts::default();
+    let began = Instant::now();
+    println!("hand: seed {seed}, ours {}", ours.place());
+    let found = run(seed, removed, batched, Fault::None, &mut ours, &mut counts);
+    let seconds = began.elapsed().as_secs_f64();
+    let Counts { removals, others, batches, closings, unknown, broken, refused } = counts;
+    let calls = removals + others + 2 * batches;
+    tally::by_call([("remove", removals), ("the four others", others), ("a batch by value", batches), ("a batch lent", batches)].into_iter());
+    println!("hand: the batches have {} closings, {} of them of unknown ids", grouped(closings), grouped(unknown));
+    println!("hand: refused by ours, by number, each with the state as before: {}", tally::by_number(&refused));
+    match &found {
+        None => println!("differential: hand: {} calls compared, 0 differences (seed {seed}, ours {}, {seconds:.1} s)", grouped(calls), ours.place()),
+        Some(what) => println!("differential: hand: {what} (seed {seed})"),
+    }
+    Tally { part: "hand", seed, calls, refused, rules: vec![("not well formed", broken)], differences: found.is_some() as u64, seconds }
+}
+
+/// Faults made on purpose, each of which must be found as what it is.
 pub fn quick() -> bool {
-    !compare(3, 100_000, 10_000, true) && compare(7, 1_000_000, 20_000, false)
-}
-
-/// `calls` is how many removals; there is a batch to each ten of them.
-pub fn long(calls: Option<u64>, seed: u64) -> bool {
-    let removed = calls.unwrap_or(1_000_000);
-    compare(seed, removed, removed / 10, false)
+    let faults = [(Fault::Answer, "a yes that isn't counted", "a difference"), (Fault::Changed, "a refusal that changed the state", "a refusal")];
+    faults.into_iter().all(|(fault, what, as_what)| match run(3, 100_000, 10_000, fault, &mut Ours::start(&PART), &mut Counts::default()) {
+        Some(found) if found.starts_with(as_what) => {
+            println!("differential: hand: a fault made on purpose, {what}, is found: {found}");
+            true
+        }
+        found => {
+            println!("differential: hand: A FAULT MADE ON PURPOSE, {what}, IS NOT FOUND ({found:?})");
+            false
+        }
+    })
 }
 
 #[cfg(feature = "linked")]
-pub fn speed() -> bool {
-    speed::run()
+pub fn speed(bench: &mut crate::bench::Bench) {
+    speed::run(bench);
 }

@@ -1,9 +1,9 @@
 //! 256 closings in one checked batch against the original's 256 calls, in one process, over the same board and the same closings.
 
+use crate::bench::{Bench, Limit, least};
 use selen_oracle::constraints::gac_bitset::BitSetGAC;
 use selen_oracle::constraints::gac_hybrid::Variable;
 use std::hint::black_box;
-use std::time::Instant;
 
 unsafe extern "C" {
     fn bench_many(turns: usize) -> u64;
@@ -35,26 +35,12 @@ fn rust(turns: usize) -> u64 {
     sum
 }
 
-/// The least time of a turn, in nanoseconds, of many runs.
-fn least(run: impl Fn(usize) -> u64) -> f64 {
-    let mut best = f64::MAX;
-    for _ in 0..300 {
-        let began = Instant::now();
-        black_box(run(black_box(TURNS)));
-        best = best.min(began.elapsed().as_nanos() as f64 / TURNS as f64);
+pub fn run(bench: &mut Bench) {
+    bench.table("A batch of 256 closings, the board checked once, against the Rust's 256 unchecked calls; the least of 300 runs of 200 turns", "batch");
+    type Loop = unsafe extern "C" fn(usize) -> u64;
+    for (name, ours) in [("by value", bench_many as Loop), ("lent", bench_lent)] {
+        let took = least(300, &mut || unsafe { ours(black_box(TURNS)) }, &mut || rust(black_box(TURNS))).per(TURNS);
+        bench.row(name, took, Limit::Faster(1.0));
+        bench.row(&format!("{name}, each closing"), took.per(256), Limit::None);
     }
-    best
-}
-
-pub fn run() -> bool {
-    let want = rust(1);
-    if unsafe { bench_many(1) } != want || unsafe { bench_lent(1) } != want {
-        println!("hand: THE SIDES DIFFER");
-        return false;
-    }
-    let theirs = least(rust);
-    for (name, ours) in [("by value, checked", least(|n| unsafe { bench_many(n) })), ("lent, checked", least(|n| unsafe { bench_lent(n) }))] {
-        println!("256 closings, {name}: {ours:.0} ns ({:.1} each); the Rust, unchecked: {theirs:.0} ns ({:.1} each); ratio {:.2}", ours / 256.0, theirs / 256.0, theirs / ours);
-    }
-    true
 }

@@ -201,13 +201,13 @@ fn step(rnd: &mut Random, side: &mut RustSide, out: &mut Vec<Record>) {
         }
         40 | 44 | 60 => {
             let size = here.size.min(4096) as u64;
-            r.b = rnd.below(8) as usize;
+            r.b = 1 + rnd.below(7) as usize;
             r.n = rnd.pick(&[size.saturating_sub(1), size, size, size, size + 1, size + 3, 0]) as u32;
             r.lo = if rnd.one_in(3) { (r.b as u64 + r.n as u64 + 2).min(60) } else { 0 };
         }
         61 => {
             let (_, size) = side.sizes(a);
-            r.b = rnd.below(8) as usize;
+            r.b = 1 + rnd.below(7) as usize;
             r.n = rnd.pick(&[size.saturating_sub(1), size, size, size, size + 1, 0]) as u32;
             r.lo = if rnd.one_in(3) { (r.b as u64 + r.n as u64 + 2).min(200) } else { 0 };
         }
@@ -222,7 +222,7 @@ fn step(rnd: &mut Random, side: &mut RustSide, out: &mut Vec<Record>) {
 fn call(rnd: &mut Random, side: &mut RustSide, a: usize, out: &mut Vec<Record>) {
     let f = side.fields(a);
     let op = rnd.pick(&[17, 18, 19, 20, 22, 23, 24, 25, 26, 27, 28, 29, 30, 31, 33, 33, 34, 35, 36, 37, 40, 41, 42, 43, 44, 50, 51, 57, 59, 60, 61]);
-    out.push(Record { a: if rnd.one_in(6) { 1 - a } else { a }, b: rnd.below(4) as usize, v: value(rnd, &f), n: rnd.pick(&[0, f.size, f.n, 4100]).min(4100), ..Record::new(op) });
+    out.push(Record { a: if rnd.one_in(6) { 1 - a } else { a }, b: 1 + rnd.below(3) as usize, v: value(rnd, &f), n: rnd.pick(&[0, f.size, f.n, 4100]).min(4100), ..Record::new(op) });
 }
 
 /// How many bytes the answers to a frame may take: the other side keeps room for the largest answer.
@@ -252,7 +252,7 @@ pub fn frame(rnd: &mut Random, side: &mut RustSide) -> (Vec<Record>, Vec<u8>) {
         }
         for r in more {
             let left = FRAME - records.len();
-            if left == 0 || answers.len() + r.answer_size() + ANSWER * left > ROOM {
+            if left == 0 || answers.len() + answer_size(&r) + ANSWER * left > ROOM {
                 continue;
             }
             side.run(&r, &mut answers);

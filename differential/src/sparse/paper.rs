@@ -83,17 +83,18 @@ pub enum Rule {
     NoneAtLeast,
 }
 
-pub const RULES: [(Rule, &str); 10] = [
-    (Rule::TooWide, "more than 4,096 values: refused with 9"),
-    (Rule::Short, "an ordering shorter than the universe: refused with 10"),
-    (Rule::Broken, "not well formed: refused with 1"),
-    (Rule::Empty, "smallest or largest where there is none: refused with 11"),
-    (Rule::BadState, "a state that doesn't fit: refused with 12"),
-    (Rule::NoRoom, "lent cells or bytes that don't suffice: refused with 14"),
-    (Rule::AboveLast, "remove_above(2147483647): drops nothing"),
-    (Rule::LastHeld, "remove_above while 2147483647 is held: the Rust on the same set moved down"),
-    (Rule::UnionAtLast, "union_with in a universe that ends at 2147483647: the Rust on the same sets moved down"),
-    (Rule::NoneAtLeast, "min_universe_value of a universe of none at -2147483648"),
+/// The rules in their order, by the names under which they are counted.
+pub const RULES: &[&str] = &[
+    "over 4,096 values",
+    "an ordering too short",
+    "not well formed",
+    "smallest or largest of none",
+    "a state that doesn't fit",
+    "no room",
+    "remove_above(M)",
+    "remove_above with M held, moved down",
+    "union up to M, moved down",
+    "a universe of none at the least i32",
 ];
 
 pub fn of_number(number: u64) -> Rule {

@@ -3,6 +3,7 @@
 
 use super::paper::{self, Fields, Rule};
 use super::script::*;
+use crate::compare::{Counts, Fault};
 use selen_oracle::variables::domain::sparse_set::{SparseSet, SparseSetState};
 
 /// How far down a set is moved where the original wraps at the end of i32.
@@ -124,43 +125,15 @@ impl Register {
     }
 }
 
-/// How often each call was run, how often each rule stood in, and what was refused.
-#[derive(Clone)]
-pub struct Counts {
-    pub calls: [u64; 256],
-    pub rules: [u64; paper::RULES.len()],
-    pub refused: [u64; 16],
-    pub wide: u64,
-}
-
 pub struct RustSide {
     sets: [Register; 2],
     cursors: [u32; REGISTERS],
     states: [(u32, u32, u32); REGISTERS],
     list: Vec<i32>,
     pub counts: Counts,
-    /// A fault on purpose, to see that the comparison finds one.
-    pub fault: bool,
-}
-
-fn refused(number: u64) -> Answer {
-    Answer { kind: 255, number, ..Answer::default() }
-}
-
-fn done() -> Answer {
-    Answer { kind: 1, ..Answer::default() }
-}
-
-fn told(yes: bool) -> Answer {
-    Answer { kind: 2, value: yes as u64, ..Answer::default() }
-}
-
-fn counted(n: usize) -> Answer {
-    Answer { kind: 3, count: n as u64, ..Answer::default() }
-}
-
-fn valued(kind: u64, v: i32) -> Answer {
-    Answer { kind, value: bits(v) as u64, ..Answer::default() }
+    /// Calls on universes of more than 1,000 values.
+    pub wide: u64,
+    pub fault: Fault,
 }
 
 fn found(v: Option<i32>) -> Answer {
@@ -174,8 +147,9 @@ impl RustSide {
             cursors: [0; REGISTERS],
             states: [(0, 0, 0); REGISTERS],
             list: vec![0; CELLS],
-            counts: Counts { calls: [0; 256], rules: [0; paper::RULES.len()], refused: [0; 16], wide: 0 },
-            fault: false,
+            counts: Counts::new(),
+            wide: 0,
+            fault: Fault::None,
         }
     }
 
@@ -229,24 +203,21 @@ impl RustSide {
             Some(answer) => answer,
             None => self.call(r, &mut lent),
         };
-        if answer.kind == 255 {
-            self.counts.refused[answer.number as usize] += 1;
-        }
-        if self.sets[a].fields.n > 1000 && !name(r.op).starts_with('=') {
-            self.counts.wide += 1;
+        if self.sets[a].fields.n > 1000 && !name(CALLS, r.op).starts_with('=') {
+            self.wide += 1;
         }
         if lent.used {
-            answer.beside = lent.seen();
+            answer.lo = lent.seen();
         }
         let s = &self.sets[a];
         let many = s.seen_cells();
-        answer.cells = seen(s.ind[..many].iter().zip(&s.val).map(|(i, v)| pair(*i, *v)));
+        answer.hi = seen(s.ind[..many].iter().zip(&s.val).map(|(i, v)| pair(*i, *v)));
         let f = &s.fields;
         answer.left = [pair(bits(f.off), f.n), pair(f.size, f.min), pair(f.max, self.cursors[r.b])];
         answer.put(r.op, out);
         lent.show(out);
         if r.op == 63 {
-            for (i, v) in s.ind[..r.shown()].iter().zip(&s.val) {
+            for (i, v) in s.ind[..shown(r)].iter().zip(&s.val) {
                 out.extend_from_slice(&pair(*i, *v).to_le_bytes());
             }
         }
@@ -281,7 +252,7 @@ impl RustSide {
                 set.rust = None;
             }
             10 => {
-                let values = r.listed();
+                let values = listed(r);
                 self.list[..values.len()].copy_from_slice(&values);
             }
             52 => self.states[r.b] = (r.n, low, high),
@@ -297,14 +268,13 @@ impl RustSide {
     }
 
     fn by(&mut self, rule: Rule, answer: Answer) -> Answer {
-        let which = paper::RULES.iter().position(|x| x.0 == rule).unwrap();
-        self.counts.rules[which] += 1;
+        self.counts.rules[rule as usize] += 1;
         answer
     }
 
     fn make(&mut self, r: &Record) -> Answer {
         let a = r.a % 2;
-        let values = &self.list[r.b..r.b + r.lent()];
+        let values = &self.list[r.b..r.b + room(r)];
         let many = match r.op {
             2 => (r.v as i64 - r.w as i64).unsigned_abs() + 1,
             3 => (r.w as i64 - r.v as i64 + 1).max(0) as u64,
@@ -345,7 +315,7 @@ impl RustSide {
         let f = self.sets[a].fields;
         let set = &mut self.sets[a];
         if matches!(r.op, 40 | 44) {
-            if r.lent() < f.size as usize {
+            if room(r) < f.size as usize {
                 return self.by(Rule::NoRoom, refused(paper::NO_ROOM));
             }
             // the removed values, in the order held at entry: what the original gathers before it removes
@@ -385,7 +355,7 @@ impl RustSide {
     fn on_one(&mut self, r: &Record, lent: &mut Lent) -> Answer {
         let (a, b, v) = (r.a % 2, r.b, r.v);
         let f = self.sets[a].fields;
-        let fault = self.fault;
+        let fault = self.fault == Fault::Answer;
         let set = &mut self.sets[a];
         match r.op {
             22 | 23 if f.size == 0 => return self.by(Rule::Empty, refused(paper::EMPTY)),
@@ -415,7 +385,7 @@ impl RustSide {
                 if next.is_some() {
                     self.cursors[b] = at + 1;
                 }
-                return next.map_or(Answer { kind: 10, ..Answer::default() }, |v| valued(9, v));
+                return next.map_or(no_more(), |v| valued(9, v));
             }
             59 => {
                 // a place below the size stands for the size
@@ -424,11 +394,11 @@ impl RustSide {
                 if next.is_some() {
                     self.cursors[b] = at + 1;
                 }
-                return next.map_or(Answer { kind: 10, ..Answer::default() }, |v| valued(9, v));
+                return next.map_or(no_more(), |v| valued(9, v));
             }
             60 => {
                 let values = set.rust().to_vec();
-                if values.len() > r.lent() {
+                if values.len() > room(r) {
                     return self.by(Rule::NoRoom, refused(paper::NO_ROOM));
                 }
                 lent.put_values(&values);
@@ -436,7 +406,7 @@ impl RustSide {
             }
             61 => {
                 let text = set.rust().to_string();
-                if text.len() > r.lent() {
+                if text.len() > room(r) {
                     return self.by(Rule::NoRoom, refused(paper::NO_ROOM));
                 }
                 lent.put_bytes(text.as_bytes());
@@ -445,7 +415,7 @@ impl RustSide {
             50 => {
                 let s = set.rust().save_state();
                 self.states[b] = (s.size, s.min, s.max);
-                return Answer { kind: 7, count: s.size as u64, beside: pair(s.min, s.max), ..Answer::default() };
+                return Answer { kind: 7, count: s.size as u64, lo: pair(s.min, s.max), ..Answer::default() };
             }
             _ => {}
         }
@@ -487,8 +457,8 @@ impl RustSide {
 }
 
 /// The cells or bytes that are lent beside the orderings, those before and after the part among them.
-struct Lent {
-    used: bool,
+pub struct Lent {
+    pub used: bool,
     text: bool,
     start: usize,
     many: usize,
@@ -497,13 +467,13 @@ struct Lent {
 }
 
 impl Lent {
-    fn new(r: &Record) -> Lent {
+    pub fn new(r: &Record) -> Lent {
         Lent {
             used: matches!(r.op, 40 | 44 | 60 | 61),
             text: r.op == 61,
             start: r.b,
-            many: r.b + r.lent() + 4,
-            shown: r.shown(),
+            many: r.b + room(r) + 4,
+            shown: shown(r),
             put: Vec::new(),
         }
     }
@@ -521,11 +491,11 @@ impl Lent {
         i.checked_sub(self.start).and_then(|k| self.put.get(k).copied()).unwrap_or(blank)
     }
 
-    fn seen(&self) -> u64 {
+    pub fn seen(&self) -> u64 {
         seen((0..self.many).map(|i| self.cell(i)))
     }
 
-    fn show(&self, out: &mut Vec<u8>) {
+    pub fn show(&self, out: &mut Vec<u8>) {
         for i in 0..if self.used { self.shown } else { 0 } {
             if self.text {
                 out.push(self.cell(i) as u8);

@@ -1,7 +1,8 @@
-//! Records of a script on sparse sets: bytes, and a text that a reader can follow (FORMAT.md).
+//! The records of a script on sparse sets (FORMAT.md). In an answer, `lo` is the bounds of a saved state, or all that is seen of the cells
+//! that were lent beside the orderings; `hi` is all that is seen of the orderings.
 
-pub const RECORD: usize = 32;
-pub const ANSWER: usize = 64;
+pub use crate::script::*;
+
 pub const FRAME: usize = 256;
 pub const REGISTERS: usize = 8;
 pub const CELLS: usize = 4112;
@@ -13,18 +14,6 @@ pub const IND: usize = 2;
 pub const VAL: usize = 3;
 pub const BLANK: u32 = 0x5a5a_5a5a;
 pub const BLANK_BYTE: u8 = 90;
-
-#[derive(Clone, Copy, PartialEq, Eq, Debug)]
-pub struct Record {
-    pub op: u8,
-    pub a: usize,
-    pub b: usize,
-    pub v: i32,
-    pub w: i32,
-    pub n: u32,
-    pub lo: u64,
-    pub hi: u64,
-}
 
 /// The calls by number, with their names. Those whose name begins with '=' only set or show a register.
 pub const CALLS: &[(u8, &str)] = &[
@@ -74,23 +63,6 @@ pub const CALLS: &[(u8, &str)] = &[
     (63, "=show"),
 ];
 
-pub fn name(op: u8) -> &'static str {
-    CALLS.iter().find(|c| c.0 == op).map_or("?", |c| c.1)
-}
-
-/// A signed number as its distance from the least i32.
-pub fn bits(v: i32) -> u32 {
-    v as u32 ^ 0x8000_0000
-}
-
-pub fn signed(bits: u32) -> i32 {
-    (bits ^ 0x8000_0000) as i32
-}
-
-pub fn pair(low: u32, high: u32) -> u64 {
-    low as u64 | (high as u64) << 32
-}
-
 /// All that is seen of lent cells, in one number.
 pub fn seen(words: impl Iterator<Item = u64>) -> u64 {
     words.fold(1, |h, x| {
@@ -101,157 +73,96 @@ pub fn seen(words: impl Iterator<Item = u64>) -> u64 {
     })
 }
 
-impl Record {
-    pub fn new(op: u8) -> Self {
-        Record { op, a: 0, b: 0, v: 0, w: 0, n: 0, lo: 0, hi: 0 }
-    }
+pub const FORM: Form = Form { frame: FRAME, calls: CALLS, answer_size, text, said };
 
-    pub fn put(&self, out: &mut Vec<u8>) {
-        out.extend_from_slice(&[self.op, self.a as u8, self.b as u8, 0]);
-        out.extend_from_slice(&bits(self.v).to_le_bytes());
-        out.extend_from_slice(&bits(self.w).to_le_bytes());
-        out.extend_from_slice(&self.n.to_le_bytes());
-        out.extend_from_slice(&self.lo.to_le_bytes());
-        out.extend_from_slice(&self.hi.to_le_bytes());
-    }
-
-    /// How many cells or bytes stand behind the answer.
-    pub fn shown(&self) -> usize {
-        let asked = (self.lo % 4096) as usize;
-        match self.op {
-            40 | 44 | 60 => asked.min(160),
-            61 => asked.min(1280),
-            63 => (self.n as usize).min(160),
-            _ => 0,
-        }
-    }
-
-    /// How many bytes the answer takes.
-    pub fn answer_size(&self) -> usize {
-        ANSWER + if self.op == 61 { self.shown() } else { 8 * self.shown() }
-    }
-
-    /// The lent part beside the orderings, from cell b on.
-    pub fn lent(&self) -> usize {
-        (self.n as usize).min(if self.op == 61 { MOST_BYTES } else { MOST_CELLS })
-    }
-
-    pub fn listed(&self) -> Vec<i32> {
-        let round = (self.lo >> 32) + 1;
-        let mut x = self.hi % round;
-        (0..(self.n as usize).min(CELLS))
-            .map(|_| {
-                let v = signed((bits(self.v) as u64).wrapping_add(x) as u32);
-                x = x.wrapping_add(self.lo & 0xffff_ffff) % round;
-                v
-            })
-            .collect()
-    }
-
-    pub fn text(&self) -> String {
-        let (a, b, v, w, n) = (self.a % 2, self.b, self.v, self.w, self.n);
-        let (low, high) = (self.lo as u32, (self.lo >> 32) as u32);
-        let name = name(self.op).trim_start_matches('=');
-        let end = b + self.lent();
-        match self.op {
-            0 => format!("all registers to 0, {n} cells blank"),
-            1 => format!("s{a} = the set of {n} values from {v}, size {low}, min {high}, max {}", self.hi as u32),
-            2 | 3 => format!("s{a} = {name}({v}, {w})"),
-            4 => format!("s{a} is lent {low} cells of ind, {high} of val"),
-            5 | 6 => format!("s{a}: cell {n} of {} = {low}", if self.op == 5 { "ind" } else { "val" }),
-            8 => format!("s{a} = {name}(list[{b}..{end}])"),
-            10 => format!("list = {:?}", self.listed()),
-            17 | 33 | 35 | 36 | 37 => format!("s{a}.{name}({v})"),
-            40 | 44 => format!("s{a}.{name}(s{}, scratch[{b}..{end}])", 1 - a),
-            41..=43 => format!("s{a}.{name}(s{})", 1 - a),
-            50 => format!("t{b} = s{a}.{name}()"),
-            51 => format!("s{a}.{name}(t{b})"),
-            52 => format!("t{b} = size {n}, min {low}, max {high}"),
-            56 | 58 => format!("c{b} = s{a}.{name}()"),
-            57 | 59 => format!("s{a}.{name}(c{b})"),
-            60 => format!("s{a}.{name}(cells[{b}..{end}])"),
-            61 => format!("s{a}.{name}(bytes[{b}..{end}])"),
-            62 => format!("c{b} = place {n}"),
-            _ => format!("s{a}.{name}()"),
-        }
+/// How many cells or bytes stand behind the answer.
+pub fn shown(r: &Record) -> usize {
+    let asked = (r.lo % 4096) as usize;
+    match r.op {
+        40 | 44 | 60 => asked.min(160),
+        61 => asked.min(1280),
+        63 => (r.n as usize).min(160),
+        _ => 0,
     }
 }
 
-/// The bytes of a frame: the records, and as many resets as are wanted to fill it.
+/// How many bytes the answer takes.
+pub fn answer_size(r: &Record) -> usize {
+    ANSWER + if r.op == 61 { shown(r) } else { 8 * shown(r) }
+}
+
+/// The lent part beside the orderings, from cell b on.
+pub fn room(r: &Record) -> usize {
+    (r.n as usize).min(if r.op == 61 { MOST_BYTES } else { MOST_CELLS })
+}
+
+pub fn listed(r: &Record) -> Vec<i32> {
+    let round = (r.lo >> 32) + 1;
+    let mut x = r.hi % round;
+    (0..(r.n as usize).min(CELLS))
+        .map(|_| {
+            let v = signed((bits(r.v) as u64).wrapping_add(x) as u32);
+            x = x.wrapping_add(r.lo & 0xffff_ffff) % round;
+            v
+        })
+        .collect()
+}
+
+fn text(r: &Record) -> String {
+    let (a, b, v, w, n) = (r.a % 2, r.b, r.v, r.w, r.n);
+    let (low, high) = (r.lo as u32, (r.lo >> 32) as u32);
+    let name = name(CALLS, r.op).trim_start_matches('=');
+    let end = b + room(r);
+    match r.op {
+        0 => format!("all registers to 0, {n} cells blank"),
+        1 => format!("s{a} = the set of {n} values from {v}, size {low}, min {high}, max {}", r.hi as u32),
+        2 | 3 => format!("s{a} = {name}({v}, {w})"),
+        4 => format!("s{a} is lent {low} cells of ind, {high} of val"),
+        5 | 6 => format!("s{a}: cell {n} of {} = {low}", if r.op == 5 { "ind" } else { "val" }),
+        8 => format!("s{a} = {name}(list[{b}..{end}])"),
+        10 => format!("list = {:?}", listed(r)),
+        17 | 33 | 35 | 36 | 37 => format!("s{a}.{name}({v})"),
+        40 | 44 => format!("s{a}.{name}(s{}, scratch[{b}..{end}])", 1 - a),
+        41..=43 => format!("s{a}.{name}(s{})", 1 - a),
+        50 => format!("t{b} = s{a}.{name}()"),
+        51 => format!("s{a}.{name}(t{b})"),
+        52 => format!("t{b} = size {n}, min {low}, max {high}"),
+        56 | 58 => format!("c{b} = s{a}.{name}()"),
+        57 | 59 => format!("s{a}.{name}(c{b})"),
+        60 => format!("s{a}.{name}(cells[{b}..{end}])"),
+        61 => format!("s{a}.{name}(bytes[{b}..{end}])"),
+        62 => format!("c{b} = place {n}"),
+        _ => format!("s{a}.{name}()"),
+    }
+}
+
+/// The bytes of a frame.
 pub fn frame(records: &[Record]) -> Vec<u8> {
-    let mut out = Vec::with_capacity(FRAME * RECORD);
-    for r in records {
-        r.put(&mut out);
-    }
-    let reset = Record::new(0);
-    while out.len() < FRAME * RECORD {
-        reset.put(&mut out);
-    }
-    out
+    crate::script::frame(records, FRAME)
 }
 
-/// An answer in words.
-#[derive(Clone, Copy, PartialEq, Eq, Default)]
-pub struct Answer {
-    pub kind: u64,
-    pub number: u64,
-    pub count: u64,
-    pub value: u64,
-    /// The bounds of a saved state, or all that is seen of the cells that were lent beside the orderings.
-    pub beside: u64,
-    /// All that is seen of the orderings.
-    pub cells: u64,
-    pub left: [u64; 3],
-}
-
-impl Answer {
-    pub fn put(&self, op: u8, out: &mut Vec<u8>) {
-        let head = op as u64 | self.kind << 8 | self.number << 16;
-        for w in [head, self.count, self.value, self.beside, self.cells].iter().chain(&self.left) {
-            out.extend_from_slice(&w.to_le_bytes());
-        }
+/// An answer in words: what is said, what is left, and what stands behind it.
+fn said(r: &Record, answer: &Answer, behind: &[u8]) -> String {
+    let said = match answer.kind {
+        7 => format!("state of size {}, min {}, max {}", answer.count, answer.lo as u32, answer.lo >> 32),
+        8 => "cursor".into(),
+        _ => answer.said(),
+    };
+    let [universe, low, high] = answer.left;
+    let left = format!(
+        "{said}; the set has {} values from {}, size {}, min {}, max {}; cursor {}; seen {:016x} and {:016x}",
+        universe >> 32,
+        signed(universe as u32),
+        low as u32,
+        low >> 32,
+        high as u32,
+        high >> 32,
+        answer.hi,
+        answer.lo
+    );
+    if r.op == 61 {
+        return format!("{left}; bytes {:?}", String::from_utf8_lossy(behind));
     }
-
-    pub fn read(bytes: &[u8]) -> Answer {
-        let word = |i: usize| u64::from_le_bytes(bytes[8 * i..8 * i + 8].try_into().unwrap());
-        Answer {
-            kind: word(0) >> 8 & 255,
-            number: word(0) >> 16,
-            count: word(1),
-            value: word(2),
-            beside: word(3),
-            cells: word(4),
-            left: [word(5), word(6), word(7)],
-        }
-    }
-
-    pub fn text(&self) -> String {
-        let value = signed(self.value as u32);
-        let said = match self.kind {
-            0 => "nothing to tell".into(),
-            1 => "done".into(),
-            2 => if self.value == 1 { "yes".into() } else { "no".into() },
-            3 => format!("count {}", self.count),
-            4 => format!("value {value}"),
-            5 => "made".into(),
-            7 => format!("state of size {}, min {}, max {}", self.count, self.beside as u32, self.beside >> 32),
-            8 => "cursor".into(),
-            9 => format!("next {value}"),
-            10 => "no more".into(),
-            255 => format!("refused {} at {}", self.number, self.count),
-            k => format!("kind {k}"),
-        };
-        let [universe, low, high] = self.left;
-        format!(
-            "{said}; the set has {} values from {}, size {}, min {}, max {}; cursor {}; seen {:016x} and {:016x}",
-            universe >> 32,
-            signed(universe as u32),
-            low as u32,
-            low >> 32,
-            high as u32,
-            high >> 32,
-            self.cells,
-            self.beside
-        )
-    }
+    let cells: Vec<(u32, u32)> = behind.chunks(8).map(|c| (u32::from_le_bytes(c[..4].try_into().unwrap()), u32::from_le_bytes(c[4..].try_into().unwrap()))).collect();
+    if cells.is_empty() { left } else { format!("{left}; cells {cells:?}") }
 }

@@ -1,5 +1,6 @@
 //! Times of the sparse calls and of the original's, in one process, over the same inputs: minima of many runs.
 
+use crate::bench::{Bench, Least, Limit};
 use crate::random::Random;
 use selen_oracle::variables::domain::sparse_set::SparseSet;
 use std::hint::black_box;
@@ -59,8 +60,8 @@ impl Both {
     }
 }
 
-/// The least times of both, taken in turns, each run on a copy of the set that is made before its time begins; and whether both said the same.
-fn least(runs: usize, set: &Both, ours: &dyn Fn(&mut Both) -> u64, rust: &dyn Fn(&mut SparseSet) -> u64) -> (f64, f64, bool) {
+/// The least times of both, taken in turns, each run on a copy of the set that is made before its time begins.
+fn least(runs: usize, set: &Both, ours: &dyn Fn(&mut Both) -> u64, rust: &dyn Fn(&mut SparseSet) -> u64) -> Least {
     let (mut a, mut b, mut same) = (f64::MAX, f64::MAX, true);
     let mut copy = set.clone();
     for _ in 0..runs {
@@ -75,7 +76,7 @@ fn least(runs: usize, set: &Both, ours: &dyn Fn(&mut Both) -> u64, rust: &dyn Fn
         b = b.min(began.elapsed().as_nanos() as f64);
         same &= p == q;
     }
-    (a, b, same)
+    Least { ours: a, rust: b, same }
 }
 
 /// A set of n values, half of them removed in no order, so that the orderings are in none either.
@@ -88,79 +89,94 @@ fn half(n: i32) -> Both {
     both(d)
 }
 
-pub fn run() -> bool {
-    const N: i32 = 4096;
-    const RUNS: usize = 3000;
-    let mut good = true;
-    let mut row = |name: &str, per: usize, (ours, rust, same): (f64, f64, bool)| {
-        good &= same;
-        let (a, b) = (ours / per as f64, rust / per as f64);
-        println!("{name:>36} {a:>11.2} ns {b:>11.2} ns {:>8.2}{}", a / b, if same { "" } else { "  THE SUMS DIFFER" });
-    };
-    println!("{:>36} {:>14} {:>14} {:>8}", "sparse sets of 4,096 values", "ours", "the Rust", "ratio");
+const N: i32 = 4096;
+const RUNS: usize = 3000;
+
+/// The time of the test alone: the same call with no values.
+fn test(op: &dyn Fn(&mut Both, &[i32]) -> u64, set: &Both) -> f64 {
+    least(RUNS, set, &|s| op(s, &[]), &|_| 0).ours
+}
+
+/// The inner work, the set tested once for all values: the price of that one test is taken off.
+fn inner(bench: &mut Bench, some: &Both, whole: &Both, about: &[i32]) {
+    bench.table("Sparse sets of 4,096 values, the inner work: one test of the set for all values, whose time is taken off; the least of 3,000 runs", "call");
+    let taken_off = |test: f64, l: Least, many: usize| Least { ours: l.ours - test, ..l }.per(many);
+    let asked = least(RUNS, some, &|s| s.contains(about), &|d| about.iter().fold(0u64, |n, v| n.wrapping_add(d.contains(*v) as u64)));
+    bench.row("contains, inner", taken_off(test(&|s, v| s.contains(v), some), asked, about.len()), Limit::Times(1.5));
+    let rising: Vec<i32> = (0..N - 1).collect();
+    for (name, values) in [("remove, inner, values in any order", &about[..4000]), ("remove, inner, the smallest each time", &rising)] {
+        let removed = least(RUNS, whole, &|s| s.remove(values), &|d| {
+            for v in values {
+                d.remove(*v);
+            }
+            folded(d)
+        });
+        bench.row(name, taken_off(test(&|s, v| s.remove(v), whole), removed, values.len()), Limit::Times(1.5));
+    }
+}
+
+fn thresholds(bench: &mut Bench, some: &Both, whole: &Both) {
+    let below = |set: &Both, v: i32| least(RUNS, set, &|s| s.call(36, v), &|d| {
+        d.remove_below(v);
+        folded(d)
+    });
+    let above = |set: &Both, v: i32| least(RUNS, set, &|s| s.call(37, v), &|d| {
+        d.remove_above(v);
+        folded(d)
+    });
+    for (name, set) in [("all held", whole), ("half held", some)] {
+        bench.row(&format!("remove_below at the middle, {name}"), below(set, N / 2), Limit::Faster(1.0));
+        bench.row(&format!("remove_below at the last value, {name}"), below(set, N - 1), Limit::Faster(1.0));
+        bench.row(&format!("remove_above at the middle, {name}"), above(set, N / 2), Limit::Faster(1.0));
+        bench.row(&format!("remove_above at the first value, {name}"), above(set, 0), Limit::Faster(1.0));
+    }
+    // where nothing is dropped the test is all there is, and the limit is that of a single call
+    bench.row("remove_below that drops nothing, all held", below(whole, 0), Limit::Within(10_000.0));
+}
+
+fn from_values(bench: &mut Bench, whole: &Both, rnd: &mut Random) {
+    for many in [4096usize, 1024, 64] {
+        let mut values: Vec<i32> = (0..many).map(|_| rnd.below(N as u64) as i32).collect();
+        (values[0], values[1]) = (N - 1, 0);
+        let made = least(RUNS / 30, whole, &|s| s.from_values(&values), &|_| folded(&SparseSet::new_from_values(black_box(values.clone()))));
+        bench.row(&format!("new_from_values, {many} values"), made, Limit::Faster(1.0));
+    }
+}
+
+/// How a checked call grows with the universe, and how much of it is the test.
+fn growth(bench: &mut Bench) {
+    let sizes = [16, 64, 256, 1024, 2048, 4096];
+    let sets: Vec<Both> = sizes.iter().map(|n| half(*n)).collect();
+    let mut heads = vec!["n".to_string()];
+    heads.extend(sizes.iter().map(|n| n.to_string()));
+    bench.growth("Sparse sets, half held: ours in ns by how many values the universe has", &heads);
+    let all = |f: &dyn Fn(&Both, i32) -> f64| -> Vec<f64> { sets.iter().zip(sizes).map(|(set, n)| f(set, n / 2)).collect() };
+    bench.line("the test alone", &all(&|set, _| test(&|s, v| s.contains(v), set)));
+    bench.line("contains", &all(&|set, v| least(RUNS, set, &|s| s.call(17, v), &|d| d.contains(v) as u64).ours));
+    bench.line("remove", &all(&|set, v| least(RUNS, set, &|s| s.call(33, v), &|_| 0).ours));
+    bench.line("remove_below at the middle", &all(&|set, v| least(RUNS, set, &|s| s.call(36, v), &|_| 0).ours));
+    bench.line("the Rust's remove_below at the middle", &all(&|set, v| least(RUNS, set, &|_| 0, &|d| {
+        d.remove_below(v);
+        folded(d)
+    }).rust));
+}
+
+pub fn run(bench: &mut Bench) {
     let whole = both(SparseSet::new(0, N - 1));
     let some = half(N);
     let mut rnd = Random::new(9);
     let about: Vec<i32> = (0..20_000).map(|_| rnd.below(N as u64 + 200) as i32 - 100).collect();
-    let fewer = &about[..4000];
-
-    // the inner work, the set tested once for all values: the price of that one test is taken off, as measured by the same call with no values
-    let free = |op: &dyn Fn(&mut Both, &[i32]) -> u64, set: &Both| least(RUNS, set, &|s| op(s, &[]), &|_| 0).0;
-    let test = free(&|s, v| s.contains(v), &some);
-    let (a, b, same) = least(RUNS, &some, &|s| s.contains(&about), &|d| about.iter().fold(0u64, |n, v| n.wrapping_add(d.contains(*v) as u64)));
-    row("contains, inner", about.len(), (a - test, b, same));
-    let test = free(&|s, v| s.remove(v), &whole);
-    let (a, b, same) = least(RUNS, &whole, &|s| s.remove(fewer), &|d| {
-        for v in fewer {
-            d.remove(*v);
-        }
-        folded(d)
+    inner(bench, &some, &whole, &about);
+    bench.table("Sparse sets of 4,096 values, checked calls; the least of 3,000 runs, of 100 for `new_from_values`", "call");
+    thresholds(bench, &some, &whole);
+    from_values(bench, &whole, &mut rnd);
+    let v = N / 2;
+    bench.row("contains, half held", least(RUNS, &some, &|s| s.call(17, v), &|d| d.contains(v) as u64), Limit::Within(10_000.0));
+    let removed = least(RUNS, &some, &|s| s.call(33, v), &|d| {
+        let yes = d.remove(v) as u64;
+        folded(d).wrapping_add(yes)
     });
-    row("remove, inner, any order", fewer.len(), (a - test, b, same));
-    let rising: Vec<i32> = (0..N - 1).collect();
-    let (a, b, same) = least(RUNS, &whole, &|s| s.remove(&rising), &|d| {
-        for v in &rising {
-            d.remove(*v);
-        }
-        folded(d)
-    });
-    row("remove, inner, the smallest", rising.len(), (a - test, b, same));
-
-    for (name, set) in [("all held", &whole), ("half held", &some)] {
-        for (v, what) in [(N / 2, "half"), (N - 1, "nearly all")] {
-            row(&format!("remove_below, {what}, {name}"), 1, least(RUNS, set, &|s| s.call(36, v), &|d| {
-                d.remove_below(v);
-                folded(d)
-            }));
-        }
-        for (v, what) in [(N / 2, "half"), (0, "nearly all")] {
-            row(&format!("remove_above, {what}, {name}"), 1, least(RUNS, set, &|s| s.call(37, v), &|d| {
-                d.remove_above(v);
-                folded(d)
-            }));
-        }
-    }
-    row("remove_below, none, all held", 1, least(RUNS, &whole, &|s| s.call(36, 0), &|d| {
-        d.remove_below(0);
-        folded(d)
-    }));
-
-    for many in [4096usize, 1024, 64] {
-        let mut values: Vec<i32> = (0..many).map(|_| rnd.below(N as u64) as i32).collect();
-        (values[0], values[1]) = (N - 1, 0);
-        row(&format!("new_from_values, {many} values"), 1, least(RUNS / 30, &whole, &|s| s.from_values(&values), &|_| folded(&SparseSet::new_from_values(black_box(values.clone())))));
-    }
-
-    for n in [4096, 2048, 1024, 256, 16] {
-        let set = half(n);
-        let v = n / 2;
-        row(&format!("contains, checked, n = {n}"), 1, least(RUNS, &set, &|s| s.call(17, v), &|d| d.contains(v) as u64));
-        row(&format!("remove, checked, n = {n}"), 1, least(RUNS, &set, &|s| s.call(33, v), &|d| {
-            let yes = d.remove(v) as u64;
-            folded(d).wrapping_add(yes)
-        }));
-    }
-    let full = both(SparseSet::new(0, N - 1));
-    row("min, checked, all held", 1, least(RUNS, &full, &|s| s.call(22, 0), &|d| (black_box(d.min()) == 0) as u64));
-    good
+    bench.row("remove, half held", removed, Limit::Within(10_000.0));
+    bench.row("min, all held", least(RUNS, &whole, &|s| s.call(22, 0), &|d| (black_box(d.min()) == 0) as u64), Limit::Within(10_000.0));
+    growth(bench);
 }

@@ -1,18 +1,22 @@
-//! The comparison: sheets in frames, every answer and every lent byte; and on a difference, the shortest sheet that still shows one.
+//! The comparison: sheets in frames, every answer and every lent byte, with every refusal of ours held to leave the lent bytes; and on a
+//! difference, the shortest sheet that still shows one.
 //!
 //! A frame is 65,536 bytes of records: the sheet's length and how many bytes are lent for the text, four bytes each, the lowest first; then the
 //! sheet. A length of 2^32 - 1 ends it. The answer to a record is how many bytes were written, or 2^64 - 1 for a refusal, in eight bytes, then the
 //! lent bytes, which were FILL before the call.
 
 use super::generate;
+use super::guard;
 use super::rust_side;
+use crate::compare::Fault;
 use crate::ours::Ours;
 use crate::random::Random;
+use crate::tally::ByNumber;
 
 pub const FRAME: usize = 65536;
 const END: u32 = u32::MAX;
 const REFUSED: u64 = u64::MAX;
-const FILL: u8 = 0xA5;
+pub const FILL: u8 = 0xA5;
 
 #[derive(Clone)]
 pub struct Record {
@@ -30,15 +34,38 @@ impl Record {
     }
 
     /// The answer that the paper asks for: the text where there is room for it, else nothing written.
-    fn answer(&self, text: &str) -> Vec<u8> {
+    fn answer(&self, text: &str, fault: Fault) -> Vec<u8> {
         let mut cells = vec![FILL; self.room];
         let mut said = REFUSED;
         if text.len() <= self.room {
             cells[..text.len()].copy_from_slice(text.as_bytes());
             said = text.len() as u64;
         }
-        [said.to_le_bytes().to_vec(), cells].concat()
+        let mut answer = [said.to_le_bytes().to_vec(), cells].concat();
+        spoil(&mut answer, fault);
+        answer
     }
+
+    /// The answer to the sheet by the Rust's board.
+    fn by_rust(&self, fault: Fault) -> Vec<u8> {
+        self.answer(&rust_side::wave(&self.sheet, fault == Fault::Answer), fault)
+    }
+}
+
+fn is_refused(answer: &[u8]) -> bool {
+    answer[..8] == REFUSED.to_le_bytes()
+}
+
+/// On both sides alike: a refusal that wrote a lent byte.
+fn spoil(answer: &mut [u8], fault: Fault) {
+    if fault == Fault::Wrote && answer.len() > 8 && is_refused(answer) {
+        answer[8] = b'R';
+    }
+}
+
+/// Whether an answer of ours that refuses left every lent byte.
+fn keeps(answer: &[u8]) -> bool {
+    !is_refused(answer) || answer[8..].iter().all(|b| *b == FILL)
 }
 
 /// A frame of records.
@@ -59,23 +86,25 @@ pub struct Counts {
     pub good: u64,
     pub damaged: u64,
     pub kinds: [u64; generate::DAMAGES.len()],
-    pub bad: u64,
-    pub refused_lists: [u64; 2],
+    /// Refusals that ours answered or printed, by number.
+    pub refused: ByNumber,
     pub conflicts: u64,
-    pub no_room: u64,
 }
 
 impl Counts {
-    fn note(&mut self, text: &str, room: usize) {
-        self.no_room += (text.len() > room) as u64;
-        if text.starts_with('R') {
-            self.bad += 1;
+    /// Takes note of an answer of ours.
+    fn note(&mut self, answer: &[u8]) {
+        if is_refused(answer) {
+            self.refused[14] += 1;
             return;
         }
+        let many = u64::from_le_bytes(answer[..8].try_into().unwrap()) as usize;
+        let text = String::from_utf8_lossy(&answer[8..8 + many]);
+        self.refused[15] += text.starts_with('R') as u64;
         for line in text.lines().filter(|l| l.starts_with('L')) {
-            self.refused_lists[0] += line.contains(" R 6 ") as u64;
-            self.refused_lists[1] += line.contains(" R 7 ") as u64;
-            self.conflicts += line.ends_with(" 0") as u64 * !line.contains('R') as u64;
+            self.refused[6] += line.contains(" R 6 ") as u64;
+            self.refused[7] += line.contains(" R 7 ") as u64;
+            self.conflicts += (line.ends_with(" 0") && !line.contains('R')) as u64;
         }
     }
 }
@@ -87,13 +116,20 @@ pub struct Difference {
     pub rust: Vec<u8>,
 }
 
-fn both(record: &Record, ours: &mut Ours, fault: bool) -> (Vec<u8>, Vec<u8>) {
-    let rust = record.answer(&rust_side::wave(&record.sheet, fault));
-    (ours.run(&frame(std::slice::from_ref(record)), rust.len()), rust)
+fn both(record: &Record, ours: &mut Ours, fault: Fault) -> (Vec<u8>, Vec<u8>) {
+    let rust = record.by_rust(fault);
+    let mut said = ours.run(&frame(std::slice::from_ref(record)), rust.len());
+    spoil(&mut said, fault);
+    (said, rust)
+}
+
+/// Whether ours is as it should be: the Rust's answer, a refusal that wrote nothing, and no byte before or past the lent ones touched.
+fn is_good(record: &Record, ours: &[u8], rust: &[u8]) -> bool {
+    ours == rust && keeps(ours) && guard::keeps(record, rust)
 }
 
 /// Takes bytes out of the sheet while a difference stays.
-fn shrink(mut record: Record, ours: &mut Ours, fault: bool) -> Difference {
+fn shrink(mut record: Record, ours: &mut Ours, fault: Fault) -> Difference {
     let mut step = record.sheet.len();
     while step > 0 {
         let mut at = 0;
@@ -101,7 +137,7 @@ fn shrink(mut record: Record, ours: &mut Ours, fault: bool) -> Difference {
             let mut shorter = record.clone();
             shorter.sheet.drain(at..(at + step).min(shorter.sheet.len()));
             let (a, b) = both(&shorter, ours, fault);
-            if a != b {
+            if !is_good(&shorter, &a, &b) {
                 record = shorter;
             } else {
                 at += step;
@@ -125,7 +161,7 @@ impl Difference {
 }
 
 /// A record with the Rust's answer: every other sheet is damaged. Most have room, some of them none to spare.
-fn record(rnd: &mut Random, fault: bool, counts: &mut Counts) -> (Record, Vec<u8>) {
+fn record(rnd: &mut Random, fault: Fault, counts: &mut Counts) -> (Record, Vec<u8>) {
     let sheet = if rnd.one_in(2) {
         counts.good += 1;
         generate::bytes(&generate::sheet(rnd))
@@ -135,21 +171,20 @@ fn record(rnd: &mut Random, fault: bool, counts: &mut Counts) -> (Record, Vec<u8
         counts.kinds[kind] += 1;
         text
     };
-    let text = rust_side::wave(&sheet, fault);
+    let text = rust_side::wave(&sheet, fault == Fault::Answer);
     let room = match rnd.below(16) {
         0 => rnd.below(text.len() as u64 + 1) as usize,
         1 => text.len().saturating_sub(1),
         2 => 2816,
         _ => text.len() + rnd.below(3) as usize,
     };
-    counts.note(&text, room);
     let record = Record { sheet, room };
-    let answer = record.answer(&text);
+    let answer = record.answer(&text, fault);
     (record, answer)
 }
 
-/// Compares so many sheets from a seed on. The counts stay in `counts`.
-pub fn run(seed: u64, sheets: u64, ours: &mut Ours, fault: bool, counts: &mut Counts) -> Option<Difference> {
+/// Compares so many sheets of each kind from a seed on. The counts stay in `counts`.
+pub fn run(seed: u64, sheets: u64, ours: &mut Ours, fault: Fault, counts: &mut Counts) -> Option<Difference> {
     let mut rnd = Random::new(seed);
     let mut kept: Option<(Record, Vec<u8>)> = None;
     loop {
@@ -166,19 +201,19 @@ pub fn run(seed: u64, sheets: u64, ours: &mut Ours, fault: bool, counts: &mut Co
             records.push(next);
             rust.extend_from_slice(&answer);
         }
-        let said = ours.run(&frame(&records), rust.len());
-        if said != rust {
-            let mut at = 0;
-            for r in records {
-                let end = at + r.answer_size();
-                if said.get(at..end) != rust.get(at..end) {
-                    return Some(shrink(r, ours, fault));
-                }
-                at = end;
+        let mut said = ours.run(&frame(&records), rust.len());
+        let mut at = 0;
+        for r in records {
+            let end = at + r.answer_size();
+            let Some(answer) = said.get_mut(at..end) else { return Some(shrink(r, ours, fault)) };
+            spoil(answer, fault);
+            counts.note(answer);
+            if !is_good(&r, answer, &rust[at..end]) {
+                return Some(shrink(r, ours, fault));
             }
-            panic!("answers that belong to no sheet");
+            at = end;
         }
-        if counts.good + counts.damaged >= sheets {
+        if counts.good >= sheets && counts.damaged >= sheets {
             return None;
         }
     }
@@ -195,11 +230,11 @@ pub fn cuts(sheets: u64, seed: u64, ours: &mut Ours) -> Result<u64, Difference> 
         }
         for at in 0..=whole.len() {
             let sheet = whole[..at].to_vec();
-            let text = rust_side::wave(&sheet, false);
-            let record = Record { sheet, room: text.len() };
-            let rust = record.answer(&text);
-            if ours.run(&frame(std::slice::from_ref(&record)), rust.len()) != rust {
-                return Err(shrink(record, ours, false));
+            let room = rust_side::wave(&sheet, false).len();
+            let record = Record { sheet, room };
+            let (said, rust) = both(&record, ours, Fault::None);
+            if !is_good(&record, &said, &rust) {
+                return Err(shrink(record, ours, Fault::None));
             }
             many += 1;
         }

@@ -1,35 +1,34 @@
--- `board::is_well_row` meets its contract: the branches are those of the definition, and the universe of a well-formed domain has room in a mask.
--- Assumes nothing.
-use mathlib.Core.Path.{ap, _∙_}
-use Rattle.rules.proofs.Tests.{fails, passes}
-use Rattle.domain.specs.Set.{width}
-use Rattle.domain.proofs.Places.{well-width}
+-- `board::is_well_row` meets its contract: all masks of the row are below the universe's limit exactly if each is. Assumes nothing.
+use mathlib.Core.Path.{_≡_, sym, ap, _∙_, subst}
+use mathlib.Core.Bool.{_&&_}
+use Prim.Native.Nat.{ℕ, _^_}
+use lib.Dec.{ltb}
+use Rattle.mask.specs.Val.{val}
+use Rattle.mask.specs.declared.Mask.{Mask}
 use Rattle.saved.specs.Saved.{fitUnder}
+use Rattle.board.proofs.WellLaws.{well-joined}
 use borrow.Author.Needs.{needs}
 use Rattle.board.proofs.is_well_row.Statement.{statement}
 use Rattle.board.proofs.is_well_row.Tie as tie
+
+join-requires : tie.Need-join-requires
+join-requires c κs = search needs
+
+with-mask-requires : tie.Need-with-mask-requires
+with-mask-requires c κs = search needs
 
 is-well-requires : tie.Need-is-well-requires
 is-well-requires c κs = search needs
 
 returns : tie.Need-returns
-returns c = rw (fails (c .before .is-well .ensures) (c .if1 .taken))
-
-width-requires : tie.Need-width-requires
-width-requires c κs = search needs
-
-fit-requires : tie.Need-fit-requires
-fit-requires c κs =
-    let s = c .before .before .before in
-    let w = well-width (s .args .d) (passes (c .before .before .is-well .ensures) (c .before .if1 .left)) in
-    (search needs, search needs, rw (c .width .ensures) w)
-
-returns-2 : tie.Need-returns-2
-returns-2 c =
-    let s = c .before .before .before .before in
-    rw (passes (c .before .before .before .is-well .ensures) (c .before .before .if1 .left))
-    (c .fit .ensures ∙ ap (fitUnder (s .args .ws .now) (s .args .marks) (s .args .i)) (c .before .width .ensures))
+returns c =
+    let w = c .before .with-mask in
+    let j = c .before .before .join in
+    let a = c .before .before .before .args in
+    c .is-well .ensures
+    ∙ well-joined (a .d) (w .result) (w .ensures .1) (w .ensures .2) (fitUnder (a .ws .now) (a .marks) (a .i))
+    (λ k. ap (λ (m : Mask). ltb (val m) (2 ^ k)) (w .ensures .0) ∙ j .ensures k)
 
 pub is-well-row-spec : {M : Type 1} → statement M
 is-well-row-spec =
-    tie.close (tie.spec is-well-requires returns width-requires fit-requires returns-2)
+    tie.close (tie.spec join-requires with-mask-requires is-well-requires returns)

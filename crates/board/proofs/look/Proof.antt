@@ -78,8 +78,8 @@ loop-again c =
       ⊎-elim (λ w. w .1 ∙ sym (seat-hit id i (a .id .0) (w .0 .taken))) (λ w. w .1 ∙ s .loop .inv .4 ∙ sym (seat-miss id i (a .id .0) (w .0 .left))) (c .if4 .came),
     )
 
-distinct-requires : tie.Need-distinct-requires Inv-loop μ-loop
-distinct-requires c κs = search needs
+apart-requires : tie.Need-apart-requires Inv-loop μ-loop
+apart-requires c κs = search needs
 
 returns-4 : tie.Need-returns-4 Inv-loop μ-loop
 returns-4 c =
@@ -89,7 +89,7 @@ returns-4 c =
     let same = differ-agree (λ k. getD (s .loop .ids) k 0) (idAt (a .t1)) (a .count) (λ k l. s .loop .inv .3 k (omega arith)) in
     sym
     (look-broken (a .t1) (a .count) (a .ws .now) (a .marks) (a .id .0)
-    (ids-meet (a .t1) (a .count) (a .ws .now) (a .marks) (sym same ∙ fails (c .before .distinct .ensures) (c .if5 .taken))))
+    (ids-meet (a .t1) (a .count) (a .ws .now) (a .marks) (sym same ∙ fails (c .before .apart .ensures) (c .if5 .taken))))
 
 returns-5 : tie.Need-returns-5 Inv-loop μ-loop
 returns-5 c =
@@ -101,7 +101,7 @@ returns-5 c =
     ∙ ap (λ (n : ℕ). seatIn (idAt (a .t1)) n (a .id .0)) e
     ∙ sym
     (look-seat (a .t1) (a .count) (a .ws .now) (a .marks) (a .id .0)
-    (parts-well (a .t1) (a .count) (a .ws .now) (a .marks) (search needs) (search needs) (sym same ∙ passes (c .before .distinct .ensures) (c .if5 .left))
+    (parts-well (a .t1) (a .count) (a .ws .now) (a .marks) (search needs) (search needs) (sym same ∙ passes (c .before .apart .ensures) (c .if5 .left))
     (ap (λ (n : ℕ). wellRows (a .t1) n (a .ws .now) (a .marks)) (sym e) ∙ s .loop .inv .2)))
 
 pub look-spec : {M : Type 1} → statement M
@@ -122,6 +122,6 @@ look-spec =
     add-i
     loop-less
     loop-again
-    distinct-requires
+    apart-requires
     returns-4
     returns-5)

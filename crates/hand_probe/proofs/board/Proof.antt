@@ -1,6 +1,6 @@
 -- A destination is registered in each turn, from words that the frame has. Assumes nothing.
-use Prim.Native.Nat.{_≤_, _-_}
 use borrow.Author.Needs.{needs}
+use Prim.Native.Nat.{_≤_, _-_}
 use Rattle.hand_probe.proofs.board.Statement.{statement}
 use Rattle.hand_probe.proofs.board.Tie as tie
 
@@ -16,35 +16,14 @@ new-requires c κs = search needs
 loop-holds : tie.Need-loop-holds Inv-loop μ-loop
 loop-holds c = search needs
 
-mul-word : tie.Need-mul-word Inv-loop μ-loop
-mul-word c = search needs
+mul-registered : tie.Need-mul-registered Inv-loop μ-loop
+mul-registered c = search needs
 
-add-word : tie.Need-add-word Inv-loop μ-loop
-add-word c = search needs
+add-registered : tie.Need-add-registered Inv-loop μ-loop
+add-registered c = search needs
 
-word-requires : tie.Need-word-requires Inv-loop μ-loop
-word-requires c κs = search needs
-
-low-requires : tie.Need-low-requires Inv-loop μ-loop
-low-requires c κs = search needs
-
-mul-word-2 : tie.Need-mul-word-2 Inv-loop μ-loop
-mul-word-2 c = search needs
-
-add-word-2 : tie.Need-add-word-2 Inv-loop μ-loop
-add-word-2 c = search needs
-
-word-requires-2 : tie.Need-word-requires-2 Inv-loop μ-loop
-word-requires-2 c κs = search needs
-
-signed-requires : tie.Need-signed-requires Inv-loop μ-loop
-signed-requires c κs = search needs
-
-signed-requires-2 : tie.Need-signed-requires-2 Inv-loop μ-loop
-signed-requires-2 c κs = search needs
-
-add-variable-requires : tie.Need-add-variable-requires Inv-loop μ-loop
-add-variable-requires c κs = search needs
+registered-requires : tie.Need-registered-requires Inv-loop μ-loop
+registered-requires c κs = search needs
 
 add-i : tie.Need-add-i Inv-loop μ-loop
 add-i c = search needs
@@ -66,16 +45,9 @@ board-spec =
     μ-loop
     new-requires
     loop-holds
-    mul-word
-    add-word
-    word-requires
-    low-requires
-    mul-word-2
-    add-word-2
-    word-requires-2
-    signed-requires
-    signed-requires-2
-    add-variable-requires
+    mul-registered
+    add-registered
+    registered-requires
     add-i
     loop-less
     loop-again

@@ -1,111 +1,56 @@
--- A store keeps the length, so each of the eight bytes stands where the first test put it. Assumes nothing.
-use native.Mathlib.Omega.{arith}
-use lib.ListN.{length-set}
+-- Each byte stands in the part that the caller has shown to be there, since a store keeps the length. Assumes nothing.
 use borrow.Author.Needs.{needs}
+use Prim.Native.Nat.{_≤_, _-_}
+use mathlib.Core.Path.{_≡_}
+use lib.ListN.{length}
 use Rattle.probe_parts.proofs.wire.put_word.Statement.{statement}
 use Rattle.probe_parts.proofs.wire.put_word.Tie as tie
 
-byte-requires : tie.Need-byte-requires
-byte-requires c κs = search needs
+abbrev Inv-loop : tie.InvT-loop
+Inv-loop out₀ at w rest₀ i₀ out rest i = (length out ≡ length out₀) × (i ≤ 8)
 
-slice-write-out : tie.Need-slice-write-out
-slice-write-out c = search needs
+abbrev μ-loop : tie.MeasureT-loop
+μ-loop out₀ at w rest₀ i₀ out rest i = 8 - i
 
-byte-requires-2 : tie.Need-byte-requires-2
-byte-requires-2 c κs = search needs
+loop-holds : tie.Need-loop-holds Inv-loop μ-loop
+loop-holds c = search needs
 
-add-out : tie.Need-add-out
+cast-out : tie.Need-cast-out Inv-loop μ-loop
+cast-out c = search needs
+
+add-out : tie.Need-add-out Inv-loop μ-loop
 add-out c = search needs
 
-slice-write-out-2 : tie.Need-slice-write-out-2
-slice-write-out-2 c = simp length-set (omega arith)
+slice-write-out : tie.Need-slice-write-out Inv-loop μ-loop
+slice-write-out c = search needs
 
-byte-requires-3 : tie.Need-byte-requires-3
-byte-requires-3 c κs = search needs
+add-i : tie.Need-add-i Inv-loop μ-loop
+add-i c = search needs
 
-add-out-2 : tie.Need-add-out-2
-add-out-2 c = search needs
+loop-less : tie.Need-loop-less Inv-loop μ-loop
+loop-less c = search needs
 
-slice-write-out-3 : tie.Need-slice-write-out-3
-slice-write-out-3 c = simp length-set (omega arith)
+loop-again : tie.Need-loop-again Inv-loop μ-loop
+loop-again c = search needs
 
-byte-requires-4 : tie.Need-byte-requires-4
-byte-requires-4 c κs = search needs
-
-add-out-3 : tie.Need-add-out-3
-add-out-3 c = search needs
-
-slice-write-out-4 : tie.Need-slice-write-out-4
-slice-write-out-4 c = simp length-set (omega arith)
-
-byte-requires-5 : tie.Need-byte-requires-5
-byte-requires-5 c κs = search needs
-
-add-out-4 : tie.Need-add-out-4
-add-out-4 c = search needs
-
-slice-write-out-5 : tie.Need-slice-write-out-5
-slice-write-out-5 c = simp length-set (omega arith)
-
-byte-requires-6 : tie.Need-byte-requires-6
-byte-requires-6 c κs = search needs
-
-add-out-5 : tie.Need-add-out-5
-add-out-5 c = search needs
-
-slice-write-out-6 : tie.Need-slice-write-out-6
-slice-write-out-6 c = simp length-set (omega arith)
-
-byte-requires-7 : tie.Need-byte-requires-7
-byte-requires-7 c κs = search needs
-
-add-out-6 : tie.Need-add-out-6
-add-out-6 c = search needs
-
-slice-write-out-7 : tie.Need-slice-write-out-7
-slice-write-out-7 c = simp length-set (omega arith)
-
-byte-requires-8 : tie.Need-byte-requires-8
-byte-requires-8 c κs = search needs
-
-add-out-7 : tie.Need-add-out-7
-add-out-7 c = search needs
-
-slice-write-out-8 : tie.Need-slice-write-out-8
-slice-write-out-8 c = simp length-set (omega arith)
-
-same-length : tie.Need-same-length
+same-length : tie.Need-same-length Inv-loop μ-loop
 same-length c = search needs
 
-returns : tie.Need-returns
-returns c = simp length-set (omega arith)
+returns : tie.Need-returns Inv-loop μ-loop
+returns c = search needs
 
 pub put-word-spec : {M : Type 1} → statement M
 put-word-spec =
     tie.close
     (tie.spec
-    byte-requires
-    slice-write-out
-    byte-requires-2
+    Inv-loop
+    μ-loop
+    loop-holds
+    cast-out
     add-out
-    slice-write-out-2
-    byte-requires-3
-    add-out-2
-    slice-write-out-3
-    byte-requires-4
-    add-out-3
-    slice-write-out-4
-    byte-requires-5
-    add-out-4
-    slice-write-out-5
-    byte-requires-6
-    add-out-5
-    slice-write-out-6
-    byte-requires-7
-    add-out-6
-    slice-write-out-7
-    byte-requires-8
-    add-out-7
-    slice-write-out-8
+    slice-write-out
+    add-i
+    loop-less
+    loop-again
     same-length
     returns)
