@@ -1,9 +1,10 @@
 -- What is written is read back as the same state, every five cells are the writing of exactly one, and a refused call leaves every cell.
 -- Assumes nothing.
-use mathlib.Core.Path.{_≡_, sym, ap, _∙_}
+use mathlib.Core.Path.{_≡_, refl, sym, ap, _∙_}
 use mathlib.Core.List.{List, _∷_, _++_}
 use Prim.Native.Nat.{ℕ, _≤_, _<_, _^_}
 use native.Mathlib.Omega.{arith}
+use lib.IntN.{ℤ}
 use lib.ListN.{length, getD, drop}
 use lib.Seq.{drop-cons}
 use mir.Syntax.{w32}
@@ -12,12 +13,15 @@ use Rattle.rules.specs.Board as rules
 use Rattle.rules.specs.declared.Refusal.{Refusal}
 use Rattle.sparse_inner.specs.Set.{Full}
 use Rattle.sparse_inner.specs.declared.Sparse.{Sparse}
+use Rattle.sparse.specs.declared.Outcome.the-variants as outcome
+use Rattle.sparse_pairs.specs.Calls as pairs
+use Rattle.sparse_pairs.specs.Calls.{Pared}
 use Rattle.state.proofs.Halves.{half-back, chute-half}
 use Rattle.reply.specs.Told.{coded}
 use Rattle.reply.specs.Through.{left}
 use Rattle.pirozhkan_sparse.specs.Layout.{size, writtenOf, readOf}
-use Rattle.pirozhkan_sparse.specs.Lent.{Cells, cells, fullIn, put, Reply, written, through}
-use Rattle.pirozhkan_sparse.proofs.LentLaws.{through-done}
+use Rattle.pirozhkan_sparse.specs.Lent.{Cells, cells, fullIn, put, Reply, written, through, worn, withScratch, pared, parting, joining}
+use Rattle.pirozhkan_sparse.proofs.LentLaws.{through-done, joining-done, parting-done}
 
 -- ---- written, and read back
 
@@ -54,6 +58,22 @@ only-one cs s f e = sym (read-back s (drop size cs) f) ∙ ap readOf e
 -- the by-value call left all as it came: so does the exported one
 pub refused-same : (f : Full → Reply) (c : Cells) (r : Refusal) → size ≤ length (c .state) → Small (c .state) → f (fullIn c) ≡ record { left = fullIn c; answer = rules.denied r } → through f c ≡ left (coded (rules.denied r)) c
 refused-same f c r h fit e =
-    sym (through-done f c h (f (fullIn c)) (λ _. f (fullIn c)) (coded (f (fullIn c) .answer)) (put (f (fullIn c) .left .set) (c .state)) (λ _. left (coded (f (fullIn c) .answer)) (put (f (fullIn c) .left .set) (c .state))))
+    let s = f (fullIn c) in
+    sym (through-done f c h s refl (coded (s .answer)) (put (s .left .set) (c .state)) refl)
     ∙ ap (written c) e
     ∙ ap (λ (cs : List ℕ). left (coded (rules.denied r)) (cells cs (c .ind) (c .val))) (written-back (c .state) h fit)
+
+-- the same of two sets: the first is as it came, and the scratch
+pub joining-same : (f : Full → Full → Reply) (c d : Cells) (r : Refusal) → size ≤ length (c .state) → size ≤ length (d .state) → Small (c .state) → f (fullIn c) (fullIn d) ≡ record { left = fullIn c; answer = rules.denied r } → joining f c d ≡ left (coded (rules.denied r)) c
+joining-same f c d r h m fit e =
+    let s = f (fullIn c) (fullIn d) in
+    sym (joining-done f c d h m s refl (coded (s .answer)) (put (s .left .set) (c .state)) refl)
+    ∙ ap (written c) e
+    ∙ ap (λ (cs : List ℕ). left (coded (rules.denied r)) (cells cs (c .ind) (c .val))) (written-back (c .state) h fit)
+
+pub parting-same : (f : Full → Full → List ℤ → Pared) (c d : Cells) (scratch : List ℤ) (r : Refusal) → size ≤ length (c .state) → size ≤ length (d .state) → Small (c .state) → f (fullIn c) (fullIn d) scratch ≡ pairs.pared (outcome.Refused r) (fullIn c) scratch → parting f c d scratch ≡ left (coded (rules.denied r)) (worn c scratch)
+parting-same f c d scratch r h m fit e =
+    let s = f (fullIn c) (fullIn d) scratch in
+    sym (parting-done f c d scratch h m s refl (coded (pared s .answer)) (put (s .left .set) (c .state)) refl)
+    ∙ ap (λ (p : Pared). withScratch (p .scratch) (written c (pared p))) e
+    ∙ ap (λ (cs : List ℕ). left (coded (rules.denied r)) (worn (cells cs (c .ind) (c .val)) scratch)) (written-back (c .state) h fit)
