@@ -1,5 +1,6 @@
 // The forms with a proof by hand behind one exported function, for comparisons with the Rust: removal through a reference, and
-// a batch by value and lent. A frame is one or the other (differential/FORMAT.md).
+// a batch by value and lent, with its first closing alone through a reference. A frame is one or the other
+// (differential/FORMAT.md).
 //
 // probe_hand
 ghost use mathlib.Core.Path.{_≡_};
@@ -7,6 +8,7 @@ ghost use Prim.Native.Nat.{_+_, _*_, _<_, _≤_};
 ghost use lib.ListN.{length};
 use batch::Batched;
 use board::Board;
+use board::Closed;
 use board::Row;
 use closing::Closing;
 use closing::Kind;
@@ -231,28 +233,48 @@ fn put_masks(rows: [Row; 64], out: &mut [u8], to: usize)
     }
 }
 
-// The answer, the flag, and the masks of all rows.
-fn show(r: Batched, out: &mut [u8], to: usize)
-    requires { ⌜ to + 1040 ≤ length (now out) ⌝ }
+// An answer as a number, the flag, and the masks of all rows; then one number over all of the board, its count and its marks.
+fn show(answer: u64, b: Board, out: &mut [u8], to: usize)
+    requires { ⌜ to + 1064 ≤ length (now out) ⌝ }
     ensures { λ _. ⌜ length (now (out .exit)) ≡ length (now (out .entry)) ⌝ }
 {
-    let a = r.answer;
-    let b = r.board;
     let rows = b.rows;
+    let whole = board_probe_parts::show::left(b);
     let mut flag = 0;
     if b.changed {
         flag = 1;
     }
-    wire::put_words(&[counted(a), flag], out, to);
+    wire::put_words(&[answer, flag], out, to);
     put_masks(rows, out, to + 16);
+    wire::put_words(&[whole.lo, whole.hi, whole.bounds], out, to + 1040);
 }
 
-fn show_both(r: Batched, s: Batched, out: &mut [u8])
-    requires { ⌜ 8192 ≤ length (now out) ⌝ }
+fn show_batch(r: Batched, out: &mut [u8], to: usize)
+    requires { ⌜ to + 1064 ≤ length (now out) ⌝ }
     ensures { λ _. ⌜ length (now (out .exit)) ≡ length (now (out .entry)) ⌝ }
 {
-    show(r, out, 0);
-    show(s, out, 1040);
+    let a = r.answer;
+    let b = r.board;
+    show(counted(a), b, out, to);
+}
+
+fn show_closed(r: Closed, out: &mut [u8], to: usize)
+    requires { ⌜ to + 1064 ≤ length (now out) ⌝ }
+    ensures { λ _. ⌜ length (now (out .exit)) ≡ length (now (out .entry)) ⌝ }
+{
+    let a = r.answer;
+    let b = r.board;
+    show(told(a), b, out, to);
+}
+
+fn closed_here(b: Board, c: Closing) -> Closed {
+    let kind = c.kind;
+    match kind {
+        Kind::Remove => board_in_place::remove_value_here(b, c.id, c.value),
+        Kind::Assign => board_in_place::assign_variable_here(b, c.id, c.value),
+        Kind::Below => board_in_place::remove_below_here(b, c.id, c.value),
+        Kind::Above => board_in_place::remove_above_here(b, c.id, c.value),
+    }
 }
 
 // The board's flag is cleared first, and its count set past the limit where the frame asks for a board that isn't well formed.
@@ -265,25 +287,49 @@ fn ready(b: Board, broken: bool) -> Board {
     next
 }
 
+fn asked(script: &[u8]) -> Board
+    requires { ⌜ 8192 ≤ length (now script) ⌝ }
+{
+    let head = wire::word(script, 8);
+    ready(
+        board(script, (head % 256 % 65) as usize),
+        (head / 65536) % 2 == 1,
+    )
+}
+
+// The batch by value.
+fn many(script: &[u8], b: Board) -> Batched
+    requires { ⌜ 8192 ≤ length (now script) ⌝ }
+{
+    let n = low(wire::word(script, 8) / 4294967296) as usize;
+    batch::close_many(b, run(script), n)
+}
+
+// The batch's first closing, through a reference to the board.
+fn first(script: &[u8], b: Board) -> Closed
+    requires { ⌜ 8192 ≤ length (now script) ⌝ }
+{
+    closed_here(b, closing(script, CLOSINGS))
+}
+
+fn show_both(script: &[u8], b: Board, out: &mut [u8])
+    requires { ⌜ (8192 ≤ length (now script)) × (8192 ≤ length (now out)) ⌝ }
+    ensures { λ _. ⌜ length (now (out .exit)) ≡ length (now (out .entry)) ⌝ }
+{
+    show_batch(many(script, b), out, 0);
+    show_batch(batch_lent::close_run(b, run(script)), out, 1064);
+}
+
 fn batches(script: &[u8], out: &mut [u8])
     requires { ⌜ (8192 ≤ length (now script)) × (8192 ≤ length (now out)) ⌝ }
     ensures { λ _. ⌜ length (now (out .exit)) ≡ length (now (out .entry)) ⌝ }
 {
-    let head = wire::word(script, 8);
-    let b = ready(
-        board(script, (head % 256 % 65) as usize),
-        (head / 65536) % 2 == 1,
-    );
-    let cs = run(script);
-    let n = low(head / 4294967296) as usize;
-    show_both(
-        batch::close_many(b, cs, n),
-        batch_lent::close_run(b, cs),
-        out,
-    );
+    let b = asked(script);
+    show_both(script, b, out);
+    show_closed(first(script, b), out, 2128);
 }
 
-// The answers to one frame: 6,400 bytes to removals, 2,080 to a batch. Where there is less room than a frame, none.
+// The answers to one frame: 6,400 bytes to removals, 3,192 to a batch. Where there is less room than a frame, none.
 #[no_mangle]
 pub extern "C" fn probe_hand(script: &[u8], out: &mut [u8]) -> usize
     ensures { λ n. ⌜ n ≤ length (now (out .exit)) ⌝ }
@@ -299,5 +345,5 @@ pub extern "C" fn probe_hand(script: &[u8], out: &mut [u8]) -> usize
         return 6400;
     }
     batches(script, out);
-    2080
+    3192
 }

@@ -34,21 +34,21 @@ fn said(c: Counted) -> u64 {
     }
 }
 
-// Lends `room` bytes behind the place of the answer.
+// Lends `room` bytes behind the place of the answer. The eight past them are filled too, so that it shows if the call writes them.
 fn answer(sheet: &[u8], out: &mut [u8], at: usize, room: usize)
-    requires { ⌜ at + 8 + room ≤ length (now out) ⌝ }
+    requires { ⌜ at + 16 + room ≤ length (now out) ⌝ }
     ensures { λ _. ⌜ length (now (out .exit)) ≡ length (now (out .entry)) ⌝ }
 {
     let from = at + 8;
     let to = from + room;
-    fill(out, from, to);
+    fill(out, from, to + 8);
     let c = wave::wave(sheet, &mut out[from..to]);
     wire::put_word(out, at, said(c));
 }
 
 // Runs the script's sheets as far as `out` has room, and answers how many bytes were written. A record is a word, of which the low half is the
 // sheet's length and the high half how many bytes are lent for its text, then the sheet; a length that the script doesn't have ends it. The answer
-// to a record is a word, how many bytes the text has or all ones for a refusal, then the lent bytes.
+// to a record is a word, how many bytes the text has or all ones for a refusal, then the lent bytes and eight past them.
 #[no_mangle]
 pub extern "C" fn probe_wave(script: &[u8], out: &mut [u8]) -> usize
     ensures { λ n. ⌜ n ≤ length (now (out .exit)) ⌝ }
@@ -63,12 +63,12 @@ pub extern "C" fn probe_wave(script: &[u8], out: &mut [u8]) -> usize
         if script.len() - from < len {
             return to;
         }
-        if out.len() - to < 8 + room {
+        if out.len() - to < 16 + room {
             return to;
         }
         let end = from + len;
         answer(&script[from..end], out, to, room);
-        to += 8 + room;
+        to += 16 + room;
         at = end;
     }
     to

@@ -1,7 +1,7 @@
 //! The board and trials: their calls by scripts of records (FORMAT.md), compared byte by byte.
 
 mod generate;
-mod paper;
+pub mod paper;
 mod rust_side;
 mod script;
 #[cfg(feature = "linked")]

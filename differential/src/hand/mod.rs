@@ -1,9 +1,11 @@
-//! The forms with a proof by hand: removal through a reference, and a batch of closings, by value and lent. Frames of 8,192 bytes
-//! (FORMAT.md) go to both sides, and every answer and every state is compared; a refusal must leave the state as it was.
+//! The forms with a proof by hand: removal through a reference, a batch of closings, by value and lent, and a closing through a
+//! reference. Frames of 8,192 bytes (FORMAT.md) go to both sides, and every answer and every state is compared; a refusal must
+//! leave the state as it was.
 
 #[cfg(feature = "linked")]
 mod speed;
 
+use crate::board::paper::{Plain, Row};
 use crate::compare::Fault;
 use crate::domain::paper::{BROKEN, well};
 use crate::domain::rust_side::domain;
@@ -28,7 +30,6 @@ pub const PART: Part = Part {
 
 const FRAME: usize = 8192;
 const REMOVALS: usize = 200;
-const ROWS: usize = 64;
 const CLOSINGS: usize = 256;
 
 /// A signed number as the frames have it: its distance from the least.
@@ -85,6 +86,8 @@ pub struct Counts {
     pub batches: u64,
     pub closings: u64,
     pub unknown: u64,
+    /// First closings through a reference, by kind.
+    pub alone: [u64; 4],
     pub broken: u64,
     /// Refusals of ours, by number.
     pub refused: ByNumber,
@@ -147,33 +150,44 @@ fn removals(rnd: &mut Random, counts: &mut Counts) -> Asked {
 }
 
 /// A destination as it was registered.
-struct Row {
+struct Registered {
     id: u32,
     min: i32,
     max: i32,
 }
 
-fn masks(gac: &BitSetGAC, rows: &[Row]) -> Vec<u64> {
-    let mut words = vec![0u64; 2 * ROWS];
-    for (i, row) in rows.iter().enumerate() {
-        let mut mask = 0u128;
-        for v in gac.get_domain_values(Variable(row.id as usize)) {
-            mask |= 1u128 << (v as i64 - row.min as i64);
-        }
-        words[2 * i] = mask as u64;
-        words[2 * i + 1] = (mask >> 64) as u64;
+/// The board as the original has it: no row past the count was ever in use, and no mark is open. A broken one says that it has 65 rows.
+fn plain(gac: &BitSetGAC, rows: &[Registered], broken: bool) -> Plain {
+    let mut board = Plain::new();
+    for (row, r) in board.rows.iter_mut().zip(rows) {
+        let d = &gac.domains[&Variable(r.id as usize)];
+        *row = Row { id: r.id, mask: d.get_mask(), min: d.min_universe_value(), max: d.max_universe_value() };
     }
+    board.count = if broken { 65 } else { rows.len() as u64 };
+    board.changed = gac.domains_changed();
+    board
+}
+
+/// The flag and all masks of a board; then one number over all of it, and its counts.
+fn state(board: Plain) -> Vec<u64> {
+    let mut words = vec![board.changed as u64];
+    words.extend(board.rows.iter().flat_map(|r| [r.mask as u64, (r.mask >> 64) as u64]));
+    words.extend(board.left());
     words
 }
 
-/// The flag and all masks of a board.
-fn state(gac: &BitSetGAC, rows: &[Row]) -> Vec<u64> {
-    let mut words = vec![gac.domains_changed() as u64];
-    words.extend(masks(gac, rows));
-    words
+fn close(gac: &mut BitSetGAC, kind: u64, id: u32, v: i32) -> bool {
+    let var = Variable(id as usize);
+    match kind {
+        0 => gac.remove_value(var, v),
+        1 => gac.assign_variable(var, v),
+        2 => gac.remove_below(var, v),
+        _ => gac.remove_above(var, v),
+    }
 }
 
-/// A frame of a batch, by value and lent. With a fault in its answer the Rust's side forgets the eighth yes.
+/// A frame of a batch, by value and lent, and of its first closing alone. With a fault in its answer the Rust's side forgets the eighth yes;
+/// with one in its state it has a saved word changed, though no mark is open.
 fn batch(rnd: &mut Random, counts: &mut Counts, fault: Fault) -> Asked {
     let mut frame = vec![0u8; FRAME];
     let count = match rnd.below(6) {
@@ -193,7 +207,7 @@ fn batch(rnd: &mut Random, counts: &mut Counts, fault: Fault) -> Asked {
     let spread = rnd.pick(&[1u32, 256, 1024, 7919]);
     let first = if rnd.one_in(3) { u32::MAX - 64 * spread } else { rnd.below(1000) as u32 };
     let mut gac = BitSetGAC::new();
-    let mut rows: Vec<Row> = Vec::new();
+    let mut rows: Vec<Registered> = Vec::new();
     for i in 0..count {
         let (min, max) = universe(rnd);
         let id = first + if rnd.one_in(30) { 0 } else { i as u32 * spread };
@@ -203,12 +217,13 @@ fn batch(rnd: &mut Random, counts: &mut Counts, fault: Fault) -> Asked {
         gac.add_variable(Variable(id as usize), a, b);
         match rows.iter_mut().find(|r| r.id == id) {
             Some(r) => (r.min, r.max) = (min, max),
-            None => rows.push(Row { id, min, max }),
+            None => rows.push(Registered { id, min, max }),
         }
     }
     gac.reset_changed_flag();
-    let before = state(&gac, &rows);
+    let before = state(plain(&gac, &rows, broken));
     let mut yes = 0;
+    let mut alone = Vec::new();
     for i in 0..CLOSINGS as u64 {
         let known = i < n && !rows.is_empty() && !rnd.one_in(5);
         let row = if known { Some(&rows[rnd.below(rows.len() as u64) as usize]) } else { None };
@@ -220,30 +235,35 @@ fn batch(rnd: &mut Random, counts: &mut Counts, fault: Fault) -> Asked {
         let kind = if rnd.one_in(2) { 0 } else { rnd.below(4) };
         put(&mut frame, 130 + 2 * i as usize, kind | (id as u64) << 32);
         put(&mut frame, 131 + 2 * i as usize, bits(v));
-        if i < n && !broken {
-            let var = Variable(id as usize);
-            let said = match kind {
-                0 => gac.remove_value(var, v),
-                1 => gac.assign_variable(var, v),
-                2 => gac.remove_below(var, v),
-                _ => gac.remove_above(var, v),
-            };
+        // the first one is run alone too, so also where none counts
+        if i < n.max(1) && !broken {
+            let said = close(&mut gac, kind, id, v);
             yes += said as u64;
-            counts.closings += 1;
-            counts.unknown += row.is_none() as u64;
+            counts.closings += (i < n) as u64;
+            counts.unknown += (i < n && row.is_none()) as u64;
+            if i == 0 {
+                alone.push(said as u64);
+            }
+        }
+        if i == 0 {
+            alone.extend(broken.then_some(256 + BROKEN));
+            alone.extend(state(plain(&gac, &rows, broken)));
+            counts.alone[kind as usize] += 1;
         }
     }
     counts.batches += 1;
     if broken {
-        counts.broken += 2;
+        counts.broken += 3;
         yes = 65536 + BROKEN;
     } else if fault == Fault::Answer && yes >= 8 {
         yes -= 1;
     }
+    let mut after = plain(&gac, &rows, broken);
+    after.saved[1023] = (fault == Fault::State) as u64;
     let mut one = vec![yes];
-    one.extend(state(&gac, &rows));
-    let units = [0, one.len()].map(|at| Unit { at, refused: 65536, before: before.clone() }).into();
-    Asked { frame, answers: one.repeat(2), units }
+    one.extend(state(after));
+    let units = [65536, 65536, 256].iter().enumerate().map(|(i, refused)| Unit { at: i * one.len(), refused: *refused, before: before.clone() }).collect();
+    Asked { frame, answers: [one.clone(), one, alone].concat(), units }
 }
 
 /// On both sides alike: a refusal that changed the first word of the state.
@@ -291,7 +311,7 @@ fn run(seed: u64, removed: u64, batched: u64, fault: Fault, ours: &mut Ours, cou
     None
 }
 
-/// So many removals, and so many batches, each by value and lent.
+/// So many removals, and so many batches, each by value, lent, and its first closing alone.
 pub fn compare(removed: u64, batched: u64, seed: u64) -> Tally {
     let mut ours = Ours::start(&PART);
     let mut counts = Counts::default();
@@ -299,9 +319,11 @@ pub fn compare(removed: u64, batched: u64, seed: u64) -> Tally {
     println!("hand: seed {seed}, ours {}", ours.place());
     let found = run(seed, removed, batched, Fault::None, &mut ours, &mut counts);
     let seconds = began.elapsed().as_secs_f64();
-    let Counts { removals, others, batches, closings, unknown, broken, refused } = counts;
-    let calls = removals + others + 2 * batches;
-    tally::by_call([("remove", removals), ("the four others", others), ("a batch by value", batches), ("a batch lent", batches)].into_iter());
+    let Counts { removals, others, batches, closings, unknown, alone, broken, refused } = counts;
+    let calls = removals + others + 2 * batches + alone.iter().sum::<u64>();
+    let forms = [("remove", removals), ("the four others", others), ("a batch by value", batches), ("a batch lent", batches)];
+    let boards = ["remove_value", "assign_variable", "remove_below", "remove_above"].into_iter().zip(alone);
+    tally::by_call(forms.into_iter().chain(boards));
     println!("hand: the batches have {} closings, {} of them of unknown ids", grouped(closings), grouped(unknown));
     println!("hand: refused by ours, by number, each with the state as before: {}", tally::by_number(&refused));
     match &found {
@@ -313,7 +335,11 @@ pub fn compare(removed: u64, batched: u64, seed: u64) -> Tally {
 
 /// Faults made on purpose, each of which must be found as what it is.
 pub fn quick() -> bool {
-    let faults = [(Fault::Answer, "a yes that isn't counted", "a difference"), (Fault::Changed, "a refusal that changed the state", "a refusal")];
+    let faults = [
+        (Fault::Answer, "a yes that isn't counted", "a difference"),
+        (Fault::State, "a saved word that a batch changed", "a difference in a frame of a batch: word 130 "),
+        (Fault::Changed, "a refusal that changed the state", "a refusal"),
+    ];
     faults.into_iter().all(|(fault, what, as_what)| match run(3, 100_000, 10_000, fault, &mut Ours::start(&PART), &mut Counts::default()) {
         Some(found) if found.starts_with(as_what) => {
             println!("differential: hand: a fault made on purpose, {what}, is found: {found}");

@@ -3,7 +3,7 @@
 //!
 //! A frame is 65,536 bytes of records: the sheet's length and how many bytes are lent for the text, four bytes each, the lowest first; then the
 //! sheet. A length of 2^32 - 1 ends it. The answer to a record is how many bytes were written, or 2^64 - 1 for a refusal, in eight bytes, then the
-//! lent bytes, which were FILL before the call.
+//! lent bytes and eight past them, which were FILL before the call.
 
 use super::generate;
 use super::guard;
@@ -17,6 +17,8 @@ pub const FRAME: usize = 65536;
 const END: u32 = u32::MAX;
 const REFUSED: u64 = u64::MAX;
 pub const FILL: u8 = 0xA5;
+/// How many bytes past the lent ones are seen.
+const PAST: usize = 8;
 
 #[derive(Clone)]
 pub struct Record {
@@ -30,16 +32,20 @@ impl Record {
     }
 
     fn answer_size(&self) -> usize {
-        8 + self.room
+        8 + self.room + PAST
     }
 
-    /// The answer that the paper asks for: the text where there is room for it, else nothing written.
+    /// The answer that the paper asks for: the text where there is room for it, else nothing written. With a fault in the state, a byte past the
+    /// lent ones is written.
     fn answer(&self, text: &str, fault: Fault) -> Vec<u8> {
-        let mut cells = vec![FILL; self.room];
+        let mut cells = vec![FILL; self.room + PAST];
         let mut said = REFUSED;
         if text.len() <= self.room {
             cells[..text.len()].copy_from_slice(text.as_bytes());
             said = text.len() as u64;
+        }
+        if fault == Fault::State {
+            cells[self.room + PAST - 1] = b'\n';
         }
         let mut answer = [said.to_le_bytes().to_vec(), cells].concat();
         spoil(&mut answer, fault);
@@ -63,7 +69,7 @@ fn spoil(answer: &mut [u8], fault: Fault) {
     }
 }
 
-/// Whether an answer of ours that refuses left every lent byte.
+/// Whether an answer of ours that refuses left every lent byte, and those past them.
 fn keeps(answer: &[u8]) -> bool {
     !is_refused(answer) || answer[8..].iter().all(|b| *b == FILL)
 }

@@ -12,7 +12,7 @@ unsafe extern "C" {
 #[cfg(feature = "linked")]
 pub fn keeps(record: &Record, answer: &[u8]) -> bool {
     let mut lent = vec![super::compare::FILL; record.room];
-    crate::ours::guarded(bench_wave, &record.sheet, &mut lent).is_some() && lent == answer[8..]
+    crate::ours::guarded(bench_wave, &record.sheet, &mut lent).is_some() && lent == answer[8..8 + record.room]
 }
 
 #[cfg(not(feature = "linked"))]

@@ -91,7 +91,9 @@ fn finds(fault: Fault, what: &str, is_it: impl Fn(&Difference) -> bool) -> bool 
 }
 
 pub fn quick() -> bool {
-    finds(Fault::Answer, "`-0` read as 0", |d| d.sheet.windows(2).any(|w| w == b"-0")) && finds(Fault::Wrote, "a refusal that wrote a lent byte", |d| d.ours == d.rust)
+    finds(Fault::Answer, "`-0` read as 0", |d| d.sheet.windows(2).any(|w| w == b"-0"))
+        && finds(Fault::State, "a byte past the lent ones", |d| d.ours.split_last().unwrap().1 == d.rust.split_last().unwrap().1)
+        && finds(Fault::Wrote, "a refusal that wrote a lent byte", |d| d.ours == d.rust)
 }
 
 #[cfg(feature = "linked")]
