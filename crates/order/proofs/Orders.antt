@@ -34,9 +34,9 @@ pub all-none : (p : ℕ → Bool) → allB p 0 ≡ true
 unfolding allB
 all-none p = refl
 
-pub all-more : (p : ℕ → Bool) (i : ℕ) → allB p i ≡ true → p i ≡ true → allB p (i + 1) ≡ true
+pub all-next : (p : ℕ → Bool) (i : ℕ) → allB p (i + 1) ≡ allB p i && p i
 unfolding allB
-all-more p i a h = rw add-one (and-both (allB p i) (p i) a h)
+all-next p i = rw add-one refl
 
 and-no : (a b : Bool) → b ≡ false → a && b ≡ false
 and-no true b e = e

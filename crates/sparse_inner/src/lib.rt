@@ -7,8 +7,9 @@ ghost use lib.ListN.{length, getD};
 ghost use lib.Signed.{leZ};
 ghost use mir.Syntax.{w32};
 ghost use mir.Val.{SFits};
+ghost use Rattle.order.specs.Order.{allB};
 ghost use Rattle.offset.specs.Places.{placeOf, cutOf};
-ghost use Rattle.sparse_inner.specs.Set.{Full, full, heldB, Well, boundsB, fitsB, stateOf, soundB, roomB, verdictOf, bothOf, placeIn, valueAt, widest};
+ghost use Rattle.sparse_inner.specs.Set.{Full, full, heldB, Well, between, boundsB, fitsB, stateOf, soundB, roomB, verdictOf, bothOf, placeIn, valueAt, widest};
 ghost use Rattle.sparse_inner.specs.Change.{dropAt, dropRun, addAt, onlyAt, fromCut, underCut};
 ghost use Rattle.sparse_inner.specs.Scan.{Spans, Greatest, Least, lowWith, highWith};
 use rules::Refusal;
@@ -90,6 +91,21 @@ fn fits_i32(off: i32, n: u32) -> bool
     (off as i64) + (n as i64) <= 2147483648
 }
 
+// Do the first `size` cells hold numbers from min to max only? Nothing ends it early, so that several cells are tested at a time.
+fn all_between(val: &[u32], size: u32, min: u32, max: u32) -> bool
+    requires { ⌜ size ≤ length (now val) ⌝ }
+    ensures { λ r. ⌜ r ≡ allB (between (now (val .entry)) min max) size ⌝ }
+{
+    let mut so = true;
+    let mut k = 0u32;
+    while k < size {
+        let x = val[k as usize];
+        so = so & ((min <= x) & (x <= max));
+        k += 1;
+    }
+    so
+}
+
 // Are min and max the bounds of what is held?
 fn bounds_ok(ind: &[u32], val: &[u32], n: u32, size: u32, min: u32, max: u32) -> bool
     requires { ⌜ (n ≤ length (now ind)) × (n ≤ length (now val)) ⌝ }
@@ -102,18 +118,7 @@ fn bounds_ok(ind: &[u32], val: &[u32], n: u32, size: u32, min: u32, max: u32) ->
     if !holds(ind, n, size, max) {
         return false;
     }
-    let mut k = 0u32;
-    while k < size {
-        let x = val[k as usize];
-        if x < min {
-            return false;
-        }
-        if max < x {
-            return false;
-        }
-        k += 1;
-    }
-    true
+    all_between(val, size, min, max)
 }
 
 // Does a state fit two orderings?
