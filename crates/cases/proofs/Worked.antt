@@ -1,7 +1,7 @@
 -- The table holds: the bit cases by laws, the sparse ones computed, and those of the pass because the real board plays them as the rules' board does,
 -- which is computed too.
 use mathlib.Core.Path.{refl}
-use Rattle.offset.specs.Places.{placeOf, spanOf}
+use Rattle.offset.specs.Places.{clip, spanOf}
 use Rattle.order.specs.Order.{swapped, allB, inverseB, counted}
 use Rattle.decimal.specs.Decimal.{digits, natural, decimal}
 use Rattle.rules.specs.Pass.{pass, raises, step1, step2}
@@ -16,7 +16,7 @@ use Rattle.cases.proofs.Bits.{size-is, fixed-is, bits-well, bits-held, 
 use Rattle.cases.proofs.Board.{plays}
 
 pub worked : Worked
-unfolding spanOf placeOf pass raises step1 step2 swapped allB inverseB counted digits natural decimal heldB boundsB fitsB soundB verdictOf isHeld setOf highest lowFrom lowest resized dropped dropAt dropWhere alone onlyAt roomFor betweenOf newOf siftedOf fromValuesOf minOf maxOf saveOf removeOf removeAllButOf restoreOf before listed closing textOf writeTextOf
+unfolding spanOf clip pass raises step1 step2 swapped allB inverseB counted digits natural decimal heldB boundsB fitsB soundB verdictOf isHeld setOf highest lowFrom lowest resized dropped dropAt dropWhere alone onlyAt roomFor betweenOf newOf siftedOf fromValuesOf minOf maxOf saveOf removeOf removeAllButOf restoreOf before listed closing textOf writeTextOf
 worked = record {
   case-1 = size-is (bits 0 127) (from 128 0) bits-well bits-held;
   case-2 = rw wide none-told;

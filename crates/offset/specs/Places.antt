@@ -5,15 +5,18 @@ use Prim.Native.Nat.{ℕ, _^_}
 use lib.Dec.{ltb}
 use lib.IntN.{ℤ, pos, negsuc, _+ℤ_, _-ℤ_}
 
--- of the difference of a value and the universe's smallest: the offset where that is below n, else n
-unfoldable pub placeOf : ℕ → ℤ → ℕ
-placeOf n (pos o) = cond (ltb o n) o n
-placeOf n (negsuc k) = n
+-- of a distance from the universe's smallest: itself where it is one of the n offsets, n past them, and low below them
+unfoldable pub clip : ℕ → ℕ → ℤ → ℕ
+clip low n (pos o) = cond (ltb o n) o n
+clip low n (negsuc k) = low
+
+-- of the difference of a value and the universe's smallest: the value's offset, and n where it has none
+abbrev pub placeOf : ℕ → ℤ → ℕ
+placeOf n d = clip n n d
 
 -- how many of the n offsets stand below a threshold, of the difference of the threshold and the universe's smallest
-unfoldable pub cutOf : ℕ → ℤ → ℕ
-cutOf n (pos o) = cond (ltb o n) o n
-cutOf n (negsuc k) = 0
+abbrev pub cutOf : ℕ → ℤ → ℕ
+cutOf n d = clip 0 n d
 
 -- a number below 0 counts as 0
 abbrev pub natural : ℤ → ℕ
@@ -42,25 +45,25 @@ unfolding spanOf
 all-of-i32 = refl
 
 last-of-i32 : placeOf (2 ^ 32) (pos 2147483647 -ℤ negsuc 2147483647) ≡ 4294967295
-unfolding placeOf
+unfolding clip
 last-of-i32 = refl
 
 far-below : placeOf 5 (negsuc 2147483647 -ℤ pos 2147483647) ≡ 5
-unfolding placeOf
+unfolding clip
 far-below = refl
 
 just-above : placeOf 5 (pos 2 -ℤ negsuc 2) ≡ 5
-unfolding placeOf
+unfolding clip
 just-above = refl
 
 all-below : cutOf 5 (pos 2147483647 -ℤ negsuc 2147483647) ≡ 5
-unfolding cutOf
+unfolding clip
 all-below = refl
 
 two-below : cutOf 5 (negsuc 0 -ℤ negsuc 2) ≡ 2
-unfolding cutOf
+unfolding clip
 two-below = refl
 
 none-below : cutOf 5 (negsuc 3 -ℤ negsuc 2) ≡ 0
-unfolding cutOf
+unfolding clip
 none-below = refl

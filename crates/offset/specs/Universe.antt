@@ -13,7 +13,7 @@ use lib.Signed.{mag, ltZ, leZ}
 use mir.Syntax.{w32}
 use mir.Val.{SFits}
 use borrow.Author.Tests.{ltb-true, ltb-false, lt-ltb, le-ltb, le-leb, lt-leb, not-false}
-use Rattle.offset.specs.Places.{placeOf, cutOf, natural, spanOf}
+use Rattle.offset.specs.Places.{clip, placeOf, cutOf, natural, spanOf}
 
 -- ---- the order does not change when both sides are moved
 lt-suc : (a b : ℤ) → ltZ (sucℤ a) (sucℤ b) ≡ ltZ a b
@@ -87,35 +87,39 @@ value-le off a b = le-moved off (pos a) (pos b)
 pub value-inj : (off : ℤ) (a b : ℕ) → off +ℤ pos a ≡ off +ℤ pos b → a ≡ b
 value-inj off a b e = ap natAbs (sym (diff-moved off (pos a)) ∙ ap (λ (x : ℤ). x -ℤ off) e ∙ diff-moved off (pos b))
 
--- ---- the place of a value
-pub place-le : (n : ℕ) (d : ℤ) → placeOf n d ≤ n
-unfolding placeOf
-place-le n (negsuc k) = le-refl n
-place-le n (pos o) = go (ltb o n) refl
+-- ---- a distance among n offsets
+pub clip-le : (low n : ℕ) (d : ℤ) → low ≤ n → clip low n d ≤ n
+unfolding clip
+clip-le low n (negsuc k) h = h
+clip-le low n (pos o) h = go (ltb o n) refl
   where
     go : (b : Bool) → ltb o n ≡ b → cond b o n ≤ n
     go true e = omega (arith, ltb-true o n e)
     go false e = le-refl n
 
--- as it is found: below the universe, in it, past it
-pub place-neg : (d : ℤ) (n : ℕ) → ltZ d (pos 0) ≡ true → n ≡ placeOf n d
-unfolding placeOf
-place-neg (pos o) n t = absurd (let h : o < 0 = ltb-true o 0 t in omega arith)
-place-neg (negsuc k) n t = refl
+-- as it is found: below the offsets, among them, past them
+pub clip-neg : (d : ℤ) (low n : ℕ) → ltZ d (pos 0) ≡ true → low ≡ clip low n d
+unfolding clip
+clip-neg (pos o) low n t = absurd (let h : o < 0 = ltb-true o 0 t in omega arith)
+clip-neg (negsuc k) low n t = refl
 
-pub place-in : (d : ℤ) (n : ℕ) → ltZ d (pos 0) ≡ false → natAbs d < n → natAbs d ≡ placeOf n d
-unfolding placeOf
-place-in (pos o) n s h = ap (λ (b : Bool). cond b o n) (sym (lt-ltb o n h))
-place-in (negsuc k) n s h = absurd (subst T s tt)
+pub clip-in : (d : ℤ) (low n : ℕ) → ltZ d (pos 0) ≡ false → natAbs d < n → natAbs d ≡ clip low n d
+unfolding clip
+clip-in (pos o) low n s h = ap (λ (b : Bool). cond b o n) (sym (lt-ltb o n h))
+clip-in (negsuc k) low n s h = absurd (subst T s tt)
 
-pub place-past : (d : ℤ) (n : ℕ) → n ≤ natAbs d → n ≡ placeOf n d
-unfolding placeOf
-place-past (pos o) n h = ap (λ (b : Bool). cond b o n) (sym (le-ltb o n h))
-place-past (negsuc k) n h = refl
+pub clip-past : (d : ℤ) (low n : ℕ) → ltZ d (pos 0) ≡ false → n ≤ natAbs d → n ≡ clip low n d
+unfolding clip
+clip-past (pos o) low n s h = ap (λ (b : Bool). cond b o n) (sym (le-ltb o n h))
+clip-past (negsuc k) low n s h = absurd (subst T s tt)
+
+-- ---- the place of a value
+pub place-le : (n : ℕ) (d : ℤ) → placeOf n d ≤ n
+place-le n d = clip-le n n d (le-refl n)
 
 -- a place below n is the value's: v is off + o
 pub place-value : (v off : ℤ) (n : ℕ) → placeOf n (v -ℤ off) < n → v ≡ off +ℤ pos (placeOf n (v -ℤ off))
-unfolding placeOf
+unfolding clip
 place-value v off n h = moved-back v off ∙ ap (λ (x : ℤ). off +ℤ x) (at (v -ℤ off) h)
   where
     pick : (o : ℕ) (b : Bool) → ltb o n ≡ b → cond b o n < n → pos o ≡ pos (cond b o n)
@@ -128,36 +132,15 @@ place-value v off n h = moved-back v off ∙ ap (λ (x : ℤ). off +ℤ x) (at (
 
 -- and the value at an offset has that place
 pub value-place : (off : ℤ) (n o : ℕ) → o < n → placeOf n ((off +ℤ pos o) -ℤ off) ≡ o
-unfolding placeOf
+unfolding clip
 value-place off n o h = ap (placeOf n) (diff-moved off (pos o)) ∙ ap (λ (b : Bool). cond b o n) (lt-ltb o n h)
 
 -- ---- the cut of a threshold
 pub cut-le : (n : ℕ) (d : ℤ) → cutOf n d ≤ n
-unfolding cutOf
-cut-le n (negsuc k) = zero-le
-cut-le n (pos o) = go (ltb o n) refl
-  where
-    go : (b : Bool) → ltb o n ≡ b → cond b o n ≤ n
-    go true e = omega (arith, ltb-true o n e)
-    go false e = le-refl n
-
-pub cut-neg : (d : ℤ) (n : ℕ) → ltZ d (pos 0) ≡ true → 0 ≡ cutOf n d
-unfolding cutOf
-cut-neg (pos o) n t = absurd (let h : o < 0 = ltb-true o 0 t in omega arith)
-cut-neg (negsuc k) n t = refl
-
-pub cut-in : (d : ℤ) (n : ℕ) → ltZ d (pos 0) ≡ false → natAbs d < n → natAbs d ≡ cutOf n d
-unfolding cutOf
-cut-in (pos o) n s h = ap (λ (b : Bool). cond b o n) (sym (lt-ltb o n h))
-cut-in (negsuc k) n s h = absurd (subst T s tt)
-
-pub cut-past : (d : ℤ) (n : ℕ) → ltZ d (pos 0) ≡ false → n ≤ natAbs d → n ≡ cutOf n d
-unfolding cutOf
-cut-past (pos o) n s h = ap (λ (b : Bool). cond b o n) (sym (le-ltb o n h))
-cut-past (negsuc k) n s h = absurd (subst T s tt)
+cut-le n d = clip-le 0 n d zero-le
 
 cut-pos : (d : ℤ) (n o : ℕ) → o < n → ltZ (pos o) d ≡ ltb o (cutOf n d)
-unfolding cutOf
+unfolding clip
 cut-pos (negsuc k) n o h = sym (le-ltb o 0 zero-le)
 cut-pos (pos e) n o h = go (ltb e n) refl
   where
@@ -229,7 +212,7 @@ span-last lo hi h = moved-back hi lo ∙ ap (λ (z : ℤ). lo +ℤ z) (go (hi -�
 
 -- a value from lo to hi is one that has a place in the universe
 pub place-range : (lo hi v : ℤ) → (leZ lo v && leZ v hi) ≡ ltb (placeOf (spanOf lo hi) (v -ℤ lo)) (spanOf lo hi)
-unfolding placeOf
+unfolding clip
 place-range lo hi v = go (v -ℤ lo) refl
   where
     from : (z : ℤ) → v -ℤ lo ≡ z → leZ lo v ≡ leZ (pos 0) z

@@ -29,7 +29,7 @@ mag-neg (pos zero) = omega arith
 mag-neg (pos (suc n)) = omega arith
 mag-neg (negsuc n) = omega arith
 
-pub sub-fits : {a b : ℤ} → SFits w32 a → SFits w32 b → SFits w64 (a -ℤ b)
+sub-fits : {a b : ℤ} → SFits w32 a → SFits w32 b → SFits w64 (a -ℤ b)
 sub-fits {a} {b} f g = record { sfits = omega (arith, mag-add a (negℤ b), mag-neg b, f .sfits, g .sfits) }
 
 pub add-fits : {a : ℤ} {o : ℕ} → SFits w32 a → o ≤ 2 ^ 32 → SFits w64 (a +ℤ pos o)

@@ -4,7 +4,7 @@ ghost use mathlib.Core.Path.{_≡_};
 ghost use lib.IntN.{pos, _+ℤ_, _-ℤ_};
 ghost use mir.Syntax.{w32};
 ghost use mir.Val.{SFits};
-ghost use Rattle.offset.specs.Places.{placeOf, cutOf, spanOf};
+ghost use Rattle.offset.specs.Places.{clip, placeOf, cutOf, spanOf};
 
 // How far a is above b.
 fn gap(a: i32, b: i32) -> i64
@@ -24,41 +24,36 @@ pub fn span(min: i32, max: i32) -> usize
     w as usize
 }
 
-// The offset of v in a universe of n values from min on; n where v is outside.
-pub fn place(v: i32, min: i32, n: usize) -> usize
-    ensures { λ r. ⌜ r ≡ placeOf n (v -ℤ min) ⌝ }
+// A distance among n offsets: itself where it is one of them, n past them, and low below them.
+fn clip_to(d: i64, low: usize, n: usize) -> usize
+    ensures { λ r. ⌜ r ≡ clip low n d ⌝ }
 {
-    let d = gap(v, min);
     if d < 0 {
-        return n;
+        return low;
     }
     let o = d as usize;
     if o < n { o } else { n }
 }
 
-// How many of n offsets stand below the offset at, which may lie on either side of them.
-fn cut(at: i64, n: usize) -> usize
-    ensures { λ r. ⌜ r ≡ cutOf n at ⌝ }
+// The offset of v in a universe of n values from min on; n where v is outside.
+pub fn place(v: i32, min: i32, n: usize) -> usize
+    ensures { λ r. ⌜ r ≡ placeOf n (v -ℤ min) ⌝ }
 {
-    if at < 0 {
-        return 0;
-    }
-    let o = at as usize;
-    if o < n { o } else { n }
+    clip_to(gap(v, min), n, n)
 }
 
 // How many of the n offsets from min on stand below t.
 pub fn below(t: i32, min: i32, n: usize) -> usize
     ensures { λ r. ⌜ r ≡ cutOf n (t -ℤ min) ⌝ }
 {
-    cut(gap(t, min), n)
+    clip_to(gap(t, min), 0, n)
 }
 
 // How many of the n offsets from min on stand at t or below it.
 pub fn upto(t: i32, min: i32, n: usize) -> usize
     ensures { λ r. ⌜ r ≡ cutOf n ((t -ℤ min) +ℤ pos 1) ⌝ }
 {
-    cut(gap(t, min) + 1, n)
+    clip_to(gap(t, min) + 1, 0, n)
 }
 
 // The value at the offset k.

@@ -3,7 +3,7 @@ use mathlib.Core.Path.{_≡_, refl}
 use mathlib.Core.List.{List, [], _∷_}
 use Prim.Native.Nat.{ℕ}
 use lib.IntN.{pos}
-use Rattle.offset.specs.Places.{placeOf}
+use Rattle.offset.specs.Places.{clip}
 use Rattle.order.specs.Order.{swapped, allB, inverseB}
 use Rattle.rules.specs.declared.Value.{Value}
 use Rattle.sparse_inner.specs.Set.{Full, full, heldB, boundsB, fitsB, stateOf, soundB, verdictOf, bothOf, setOf, isHeld}
@@ -31,7 +31,7 @@ later = unionOf (removeOf was (num 1) .left) other .left
 
 -- the state fits, with the bounds that were saved, and 2 is held in the place of 1
 pub fits-by-accident : restoreOf later (stateOf (was .set)) ≡ after outcome.Done later
-unfolding restoreOf removeOf unionOf addEach verdictOf bothOf soundB inverseB allB fitsB boundsB isHeld setOf placeOf dropAt dropped addAt added resized heldB swapped lowest lowFrom highest
+unfolding restoreOf removeOf unionOf addEach verdictOf bothOf soundB inverseB allB fitsB boundsB isHeld setOf clip dropAt dropped addAt added resized heldB swapped lowest lowFrom highest
 fits-by-accident = refl
 
 pub was-held : setOf was ≡ pos 0 ∷ pos 1 ∷ pos 3 ∷ []
@@ -39,5 +39,5 @@ unfolding setOf
 was-held = refl
 
 pub later-held : setOf later ≡ pos 0 ∷ pos 3 ∷ pos 2 ∷ []
-unfolding removeOf unionOf addEach verdictOf bothOf soundB inverseB allB fitsB boundsB isHeld setOf placeOf dropAt dropped addAt added resized heldB swapped lowest lowFrom highest
+unfolding removeOf unionOf addEach verdictOf bothOf soundB inverseB allB fitsB boundsB isHeld setOf clip dropAt dropped addAt added resized heldB swapped lowest lowFrom highest
 later-held = refl

@@ -10,16 +10,16 @@ use Rattle.offset.proofs.upto.Tie as tie
 gap-requires : tie.Need-gap-requires
 gap-requires c κs = search needs
 
-add-cut : tie.Need-add-cut
-add-cut c = more-fits (c .gap .ensures) (c .before .fits .t) (c .before .fits .min) (lit≤ tt)
+add-clip-to : tie.Need-add-clip-to
+add-clip-to c = more-fits (c .gap .ensures) (c .before .fits .t) (c .before .fits .min) (lit≤ tt)
 
-cut-requires : tie.Need-cut-requires
-cut-requires c κs = search needs
+clip-to-requires : tie.Need-clip-to-requires
+clip-to-requires c κs = search needs
 
 returns : tie.Need-returns
 returns c =
     let s = c .before .before in
-    c .cut .ensures ∙ ap (cutOf (s .args .n)) (more-is (c .before .gap .ensures) (s .fits .t) (s .fits .min) {k = 1} (lit≤ tt))
+    c .clip-to .ensures ∙ ap (cutOf (s .args .n)) (more-is (c .before .gap .ensures) (s .fits .t) (s .fits .min) {k = 1} (lit≤ tt))
 
 pub upto-spec : {M : Type 1} → statement M
-upto-spec = tie.close (tie.spec gap-requires add-cut cut-requires returns)
+upto-spec = tie.close (tie.spec gap-requires add-clip-to clip-to-requires returns)
