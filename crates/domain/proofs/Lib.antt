@@ -4,4 +4,5 @@ pub mod Places
 pub mod Numbers
 pub mod Ends
 pub mod Holding
+mod Tested
 pub mod Theorems

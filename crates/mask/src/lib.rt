@@ -1,13 +1,13 @@
 // A set of offsets, kept in words of 64 bits. No contract of a `pub fn` says how many words there are: each speaks of `val`,
 // the number whose bits are the members, and of `offsets`, how many offsets there is room for.
 ghost use mathlib.Core.Path.{_≡_};
-ghost use Prim.Native.Nat.{ℕ, _+_, _-_, _/_, _^_, _<_, _≤_, min};
+ghost use Prim.Native.Nat.{ℕ, suc, _+_, _-_, _/_, _^_, _<_, _≤_, min};
 ghost use lib.Bits.{bitAnd, bitOr};
 ghost use lib.Count.{ones};
 ghost use lib.Dec.{eqb, ltb};
-ghost use lib.ListN.{getD, set};
+ghost use lib.ListN.{drop, getD, set};
 ghost use Rattle.mask.specs.Bit.{bit, bitMinus, Lowest, Highest};
-ghost use Rattle.mask.specs.Words.{FirstWord, LastWord};
+ghost use Rattle.mask.specs.Words.{anyOf, FirstWord, LastWord};
 ghost use Rattle.mask.specs.Val.{val, offsets, words, wordsOf};
 
 pub const OFFSETS: usize = 128;
@@ -96,23 +96,6 @@ fn above(w: u64, j: usize) -> u64
     (w >> j) >> 1
 }
 
-// Is every member below k, and so none above n?
-pub fn fits(m: Mask, k: usize) -> bool
-    ensures { λ r. ⌜ r ≡ ltb (val m) (2 ^ k) ⌝ }
-{
-    if k == 0 {
-        return is_none(m);
-    }
-    let n = k - 1;
-    if n < 64 {
-        return above(m.lo, n) | m.hi == 0;
-    }
-    if n < OFFSETS {
-        return above(m.hi, n - 64) == 0;
-    }
-    true
-}
-
 // The word at place i.
 fn word(m: Mask, i: usize) -> u64
     requires { ⌜ i < words ⌝ }
@@ -131,6 +114,36 @@ fn set_word(m: Mask, i: usize, w: u64) -> Mask
     } else {
         Mask { lo: m.lo, hi: w }
     }
+}
+
+// What stands in the words past place i, one on the other.
+fn past(m: Mask, i: usize) -> u64
+    requires { ⌜ i < words ⌝ }
+    ensures { λ r. ⌜ r ≡ anyOf 0 (drop (suc i) (wordsOf m)) ⌝ }
+{
+    if i == 0 { m.hi } else { 0 }
+}
+
+// Is every member at most k? The words are chosen and not branched on: every domain's test ends here.
+pub fn ends_by(m: Mask, k: usize) -> bool
+    requires { ⌜ k < offsets ⌝ }
+    ensures { λ r. ⌜ r ≡ ltb (val m) (2 ^ (k + 1)) ⌝ }
+{
+    let i = k / 64;
+    above(word(m, i), k % 64) | past(m, i) == 0
+}
+
+// Is every member below k?
+pub fn fits(m: Mask, k: usize) -> bool
+    ensures { λ r. ⌜ r ≡ ltb (val m) (2 ^ k) ⌝ }
+{
+    if k == 0 {
+        return is_none(m);
+    }
+    if OFFSETS < k {
+        return true;
+    }
+    ends_by(m, k - 1)
 }
 
 pub fn has(m: Mask, k: usize) -> bool

@@ -7,7 +7,7 @@ ghost use mir.Val.{SFits};
 ghost use Rattle.offset.specs.Places.{clip, placeOf, cutOf, spanOf};
 
 // How far a is above b.
-fn gap(a: i32, b: i32) -> i64
+pub fn gap(a: i32, b: i32) -> i64
     ensures { λ r. ⌜ r ≡ a -ℤ b ⌝ }
 {
     (a as i64) - (b as i64)
