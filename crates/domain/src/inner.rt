@@ -7,8 +7,7 @@ ghost use lib.IntN.{pos, _+ℤ_};
 ghost use lib.ListN.{length};
 ghost use Rattle.rules.specs.Sets.{has, keep};
 ghost use Rattle.rules.specs.Board.{leaves, remove, assign, below, above};
-ghost use lib.Signed.{leZ, ltZ};
-ghost use Rattle.mask.specs.Val.{val, offsets};
+ghost use Rattle.mask.specs.Val.{val};
 ghost use Rattle.domain.specs.Set.{pair, width, universe, placeIn, setOf, holding, well};
 ghost use Rattle.domain.specs.Calls.{at, firstOf, lastOf, including};
 use super::BitDomain;
@@ -35,20 +34,16 @@ fn is_pair(d: BitDomain) -> bool
     false
 }
 
-// Is the last offset of a universe one that a mask has? Both ends in one test: as branches of `is_well` they would be two.
-fn has_room(last: i64) -> bool
-    ensures { λ r. ⌜ r ≡ leZ (pos 0) last && ltZ last (pos offsets) ⌝ }
-{
-    0 <= last && last < 128
-}
-
-// Every checked call begins with this, so the usual case comes first: a universe of 1 to 128 values.
+// Every checked call begins with this, so the usual case comes first: a universe of 1 to 128 values, and a mask that ends by its last.
 pub fn is_well(d: BitDomain) -> bool
     ensures { λ r. ⌜ r ≡ well d ⌝ }
 {
     let last = offset::gap(d.max, d.min);
-    if has_room(last) {
-        return mask::ends_by(d.mask, last as usize);
+    if mask::ends_by(d.mask, last) {
+        return true;
+    }
+    if 0 <= last {
+        return false;
     }
     is_pair(d) && mask::is_none(d.mask)
 }

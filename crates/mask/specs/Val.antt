@@ -1,9 +1,12 @@
 -- The number that a mask stands for, the mask that stands for a number, and how many offsets a mask has room for.
 -- `words`, `offsets`, `wordsOf` and `ofWords` alone say how many words a mask has.
 use mathlib.Core.Path.{_≡_, sym, ap, _∙_}
+use mathlib.Core.Bool.{Bool, _&&_}
 use Prim.Native.Nat.{ℕ, _^_, _<_}
 use mathlib.Core.List.{List, [], _∷_}
+use lib.IntN.{ℤ, pos}
 use lib.ListN.{getD}
+use lib.Signed.{leZ, ltZ}
 use Rattle.mask.specs.declared.Mask.{Mask}
 use Rattle.mask.specs.Words.{valueOf, Words, value-lt, digits, digits-fit, value-digits, digits-value}
 
@@ -12,6 +15,10 @@ words = 2
 
 abbrev pub offsets : ℕ
 offsets = 128
+
+-- there is room for the offset k
+abbrev pub isOffset : ℤ → Bool
+isOffset k = leZ (pos 0) k && ltZ k (pos offsets)
 
 abbrev pub wordsOf : Mask → List ℕ
 wordsOf m = m .lo ∷ m .hi ∷ []

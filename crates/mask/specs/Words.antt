@@ -297,16 +297,13 @@ below-words (w ∷ ws) (suc i) d l h =
     let e : 2 ^ (suc i * 64 + d) ≡ 2 ^ (i * 64 + d) * 2 ^ 64 = ap (λ (x : ℕ). 2 ^ x) (omega arith) ∙ pow-add 2 (i * 64 + d) 64 in
     (λ z. omega (arith, rest .0 z), λ p. rest .1 (omega arith))
 
--- the same, as the code has it: `(w >> j) >> 1 | past == 0`, where d is j + 1
+-- the same, as the code has it: `(w >> j) >> 1 | v | .. == 0`, where d is j + 1
 pub fits-words : (ws : List ℕ) (i d k : ℕ) → i * 64 + d ≡ k → d ≤ 64 → Words ws
-    → eqb (bitOr (getD ws i 0 / 2 ^ d) (anyOf 0 (drop (suc i) ws))) 0 ≡ ltb (valueOf ws) (2 ^ k)
+    → eqb (anyOf (getD ws i 0 / 2 ^ d) (drop (suc i) ws)) 0 ≡ ltb (valueOf ws) (2 ^ k)
 fits-words ws i d k e l h =
-    let w = getD ws i 0 / 2 ^ d in
-    let past = drop (suc i) ws in
-    let any = any-zeros 0 past in
+    let any = any-zeros (getD ws i 0 / 2 ^ d) (drop (suc i) ws) in
     let below = below-words ws i d l h in
-    eqb-ltb-iff (bitOr w (anyOf 0 past)) 0 (valueOf ws) (2 ^ (i * 64 + d)) (λ z. let p = or-none w (anyOf 0 past) z in below .0 (p .0, any .0 (p .1) .1))
-    (λ p. ap₂ bitOr (below .1 p .0) (any .1 (refl, below .1 p .1)))
+    eqb-ltb-iff (anyOf (getD ws i 0 / 2 ^ d) (drop (suc i) ws)) 0 (valueOf ws) (2 ^ (i * 64 + d)) (λ z. below .0 (any .0 z)) (λ p. any .1 (below .1 p))
     ∙ ap (λ (x : ℕ). ltb (valueOf ws) (2 ^ x)) e
 
 pub only-pos : (w : ℕ) (ws : List ℕ) → Zeros ws → 0 < valueOf (w ∷ ws) → 0 < w

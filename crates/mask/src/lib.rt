@@ -1,14 +1,17 @@
 // A set of offsets, kept in words of 64 bits. No contract of a `pub fn` says how many words there are: each speaks of `val`,
 // the number whose bits are the members, and of `offsets`, how many offsets there is room for.
 ghost use mathlib.Core.Path.{_≡_};
-ghost use Prim.Native.Nat.{ℕ, suc, _+_, _-_, _/_, _^_, _<_, _≤_, min};
+ghost use Prim.Native.Nat.{ℕ, _+_, _-_, _/_, _^_, _<_, _≤_, min};
+ghost use mathlib.Core.Bool.{_&&_};
 ghost use lib.Bits.{bitAnd, bitOr};
 ghost use lib.Count.{ones};
 ghost use lib.Dec.{eqb, ltb};
-ghost use lib.ListN.{drop, getD, set};
+ghost use lib.ListN.{getD, set};
+ghost use lib.Signed.{leZ, ltZ};
 ghost use Rattle.mask.specs.Bit.{bit, bitMinus, Lowest, Highest};
-ghost use Rattle.mask.specs.Words.{anyOf, FirstWord, LastWord};
+ghost use Rattle.mask.specs.Words.{FirstWord, LastWord};
 ghost use Rattle.mask.specs.Val.{val, offsets, words, wordsOf};
+ghost use Rattle.mask.specs.Ends.{endsBy};
 
 pub const OFFSETS: usize = 128;
 
@@ -96,6 +99,39 @@ fn above(w: u64, j: usize) -> u64
     (w >> j) >> 1
 }
 
+// Both ends in one test, of which LLVM makes one comparison.
+fn is_between(k: i64, from: i64, to: i64) -> bool
+    ensures { λ r. ⌜ r ≡ leZ from k && ltZ k to ⌝ }
+{
+    from <= k && k < to
+}
+
+// Is k an offset, and no member above it? Every test of a domain comes here, so the words are tried first and what is no offset last.
+pub fn ends_by(m: Mask, k: i64) -> bool
+    ensures { λ r. ⌜ r ≡ endsBy m k ⌝ }
+{
+    if is_between(k, 0, 64) {
+        return above(m.lo, k as usize) | m.hi == 0;
+    }
+    if is_between(k, 64, 128) {
+        return above(m.hi, k as usize - 64) == 0;
+    }
+    false
+}
+
+// Is every member below k?
+pub fn fits(m: Mask, k: usize) -> bool
+    ensures { λ r. ⌜ r ≡ ltb (val m) (2 ^ k) ⌝ }
+{
+    if k == 0 {
+        return is_none(m);
+    }
+    if OFFSETS < k {
+        return true;
+    }
+    ends_by(m, (k - 1) as i64)
+}
+
 // The word at place i.
 fn word(m: Mask, i: usize) -> u64
     requires { ⌜ i < words ⌝ }
@@ -114,36 +150,6 @@ fn set_word(m: Mask, i: usize, w: u64) -> Mask
     } else {
         Mask { lo: m.lo, hi: w }
     }
-}
-
-// What stands in the words past place i, one on the other.
-fn past(m: Mask, i: usize) -> u64
-    requires { ⌜ i < words ⌝ }
-    ensures { λ r. ⌜ r ≡ anyOf 0 (drop (suc i) (wordsOf m)) ⌝ }
-{
-    if i == 0 { m.hi } else { 0 }
-}
-
-// Is every member at most k? The words are chosen and not branched on: every domain's test ends here.
-pub fn ends_by(m: Mask, k: usize) -> bool
-    requires { ⌜ k < offsets ⌝ }
-    ensures { λ r. ⌜ r ≡ ltb (val m) (2 ^ (k + 1)) ⌝ }
-{
-    let i = k / 64;
-    above(word(m, i), k % 64) | past(m, i) == 0
-}
-
-// Is every member below k?
-pub fn fits(m: Mask, k: usize) -> bool
-    ensures { λ r. ⌜ r ≡ ltb (val m) (2 ^ k) ⌝ }
-{
-    if k == 0 {
-        return is_none(m);
-    }
-    if OFFSETS < k {
-        return true;
-    }
-    ends_by(m, k - 1)
 }
 
 pub fn has(m: Mask, k: usize) -> bool
