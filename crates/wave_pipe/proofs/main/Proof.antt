@@ -13,74 +13,12 @@ Inv-loop script₀ out₀ turn₀ script out turn = (65536 ≡ length script) ×
 abbrev μ-loop : tie.MeasureT-loop
 μ-loop script₀ out₀ turn₀ script out turn = 18446744073709551615 - turn
 
-large-buffer-requires : tie.Need-large-buffer-requires Inv-loop μ-loop
-large-buffer-requires c κs = search needs
-
-large-buffer-requires-2 : tie.Need-large-buffer-requires-2 Inv-loop μ-loop
-large-buffer-requires-2 c κs = search needs
-
-loop-holds : tie.Need-loop-holds Inv-loop μ-loop
-loop-holds c = search needs
-
-slice-aggregate-read-full : tie.Need-slice-aggregate-read-full Inv-loop μ-loop
-slice-aggregate-read-full c = search needs
-
-read-full-requires : tie.Need-read-full-requires Inv-loop μ-loop
-read-full-requires c κs = search needs
-
-returns : tie.Need-returns Inv-loop μ-loop
-returns c = search needs
-
-slice-aggregate-probe-wave : tie.Need-slice-aggregate-probe-wave Inv-loop μ-loop
-slice-aggregate-probe-wave c = search needs
-
-slice-aggregate-probe-wave-2 : tie.Need-slice-aggregate-probe-wave-2 Inv-loop μ-loop
-slice-aggregate-probe-wave-2 c = search needs
-
-probe-wave-requires : tie.Need-probe-wave-requires Inv-loop μ-loop
-probe-wave-requires c κs = search needs
-
-array-share-prefix-out : tie.Need-array-share-prefix-out Inv-loop μ-loop
-array-share-prefix-out c = search needs
-
-slice-aggregate-write-all : tie.Need-slice-aggregate-write-all Inv-loop μ-loop
-slice-aggregate-write-all c =
-    sym (length-take-le (c .before .before .probe-wave .result) (c .before .before .probe-wave .last .1 .0) (c .before .before .probe-wave .ensures))
-
-write-all-requires : tie.Need-write-all-requires Inv-loop μ-loop
-write-all-requires c κs = search needs
-
-add-turn : tie.Need-add-turn Inv-loop μ-loop
-add-turn c = search needs
-
-loop-less : tie.Need-loop-less Inv-loop μ-loop
-loop-less c = search needs
-
-loop-again : tie.Need-loop-again Inv-loop μ-loop
-loop-again c = search needs
-
-returns-2 : tie.Need-returns-2 Inv-loop μ-loop
-returns-2 c = search needs
+-- what is written is no more than the buffer holds; all else is found
+written : tie.Need-slice-aggregate-write-all Inv-loop μ-loop
+written c = sym (length-take-le (c .before .before .probe-wave .result) (c .before .before .probe-wave .last .1 .0) (c .before .before .probe-wave .ensures))
 
 pub main-spec : {M : Type 1} → statement M
 main-spec =
     tie.close
-    (tie.spec
-    Inv-loop
-    μ-loop
-    large-buffer-requires
-    large-buffer-requires-2
-    loop-holds
-    slice-aggregate-read-full
-    read-full-requires
-    returns
-    slice-aggregate-probe-wave
-    slice-aggregate-probe-wave-2
-    probe-wave-requires
-    array-share-prefix-out
-    slice-aggregate-write-all
-    write-all-requires
-    add-turn
-    loop-less
-    loop-again
-    returns-2)
+    (tie.spec Inv-loop μ-loop (λ c κs. search needs) (λ c κs. search needs) (λ c. search needs) (λ c. search needs) (λ c κs. search needs) (λ c. search needs) (λ c. search needs) (λ c. search needs)
+    (λ c κs. search needs) (λ c. search needs) written (λ c κs. search needs) (λ c. search needs) (λ c. search needs) (λ c. search needs) (λ c. search needs))
