@@ -48,6 +48,11 @@ static void full(int marks) {
     for (int i = 0; i < marks; i++) need(pirozhkan_mark(state, W) == 0, "mark");
 }
 
+static uint64_t trial(void) {
+    uint64_t code = pirozhkan_mark(state, W);
+    return code != 0 ? code : pirozhkan_restore(state, W);
+}
+
 static void calls(void) {
     const uint32_t list[] = {1000, 2000, 3000, 4000, 5000, 6000};
     uint32_t kinds[256], ids[256];
@@ -57,7 +62,7 @@ static void calls(void) {
     TIME("domain_size", pirozhkan_domain_size(state, W, 1000 + 1000 * (i % 64)));
     TIME("propagate_alldiff, 6 ids", pirozhkan_propagate_alldiff(state, W, list, 6));
     TIME("ready, 6 ids", pirozhkan_ready(state, W, list, 6));
-    TIME("mark and restore", pirozhkan_mark(state, W) + pirozhkan_restore(state, W));
+    TIME("mark and restore", trial());
     for (uint32_t i = 0; i < 256; i++) kinds[i] = PIROZHKAN_REMOVE, ids[i] = 1000 + 1000 * (i % 64), values[i] = (int32_t)i;
     TIME("batch of 256 closings", pirozhkan_batch(state, W, kinds, 256, ids, 256, values, 256));
     full(8);
@@ -80,7 +85,7 @@ static size_t sheet(const char *name) {
     return bytes;
 }
 
-/* CALLS calls, as one time */
+/* what one of so many calls takes */
 static double binding(size_t bytes, int count) {
     double from = now();
     for (int i = 0; i < count; i++) need(pirozhkan_refused(pirozhkan_wave(text, bytes, out, sizeof out)) == 0, "pirozhkan_wave");

@@ -314,7 +314,7 @@ static void sheets(void) {
     EXPECT(memcmp(out, "R 15 9\n", 7) == 0);
 }
 
-/* A trial in a trial: the inner one is undone, the outer one kept, then all of it undone by a third. */
+/* A trial in a trial in a trial: the innermost is undone, the middle one kept, and the outermost undone with all of it. */
 static void trials(void) {
     pirozhkan_new(state, W);
     add(1, 1, 9);

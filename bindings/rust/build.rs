@@ -7,7 +7,11 @@ fn main() {
     let folder = env::var_os("PIROZHKAN_LIB").map(PathBuf::from).unwrap_or_else(|| {
         PathBuf::from(env::var_os("CARGO_MANIFEST_DIR").expect("cargo names the crate's folder")).join("../../target/lib")
     });
-    println!("cargo:rerun-if-changed={}", folder.join("libpirozhkan.a").display());
+    let library = folder.join("libpirozhkan.a");
+    println!("cargo:rerun-if-changed={}", library.display());
+    if !library.exists() {
+        println!("cargo:warning=there is no {}: bindings/build makes it", library.display());
+    }
     println!("cargo:rustc-link-search=native={}", folder.display());
     println!("cargo:rustc-link-lib=static=pirozhkan");
 }

@@ -55,7 +55,8 @@ impl Limit {
 pub fn number(ns: f64) -> String {
     if ns < 0.0 {
         format!("-{}", number(-ns))
-    } else if ns < 100.0 { format!("{}", (ns * 100.0).round() / 100.0) 
+    } else if ns < 100.0 {
+        format!("{}", (ns * 100.0).round() / 100.0)
     } else {
         crate::tally::grouped(ns.round() as u64)
     }

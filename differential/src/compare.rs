@@ -316,6 +316,26 @@ pub fn compare<S: Side>(seed: u64, enough: impl Fn(&S) -> bool, more: impl Fn(&S
     Tally { part: S::NAME, seed, calls, refused, rules, differences: found.is_some() as u64, seconds }
 }
 
+/// So many frames of scripts from a seed, in bytes, and the Rust's answers to them.
+pub fn sample<S: Side>(side: &mut S, seed: u64, frames: u64) -> (Vec<u8>, Vec<u8>) {
+    let mut rnd = Random::new(seed);
+    let (mut scripts, mut answers) = (Vec::new(), Vec::new());
+    for _ in 0..frames {
+        let (records, rust) = side.frame(&mut rnd);
+        scripts.extend_from_slice(&frame(&records, S::FORM.frame));
+        answers.extend_from_slice(&rust);
+    }
+    (scripts, answers)
+}
+
+/// The seed from which samples are recorded.
+pub const RECORDED: u64 = 20261115;
+
+/// A sample to record.
+pub fn record<S: Side>(frames: u64) -> (Vec<u8>, Vec<u8>) {
+    sample(&mut S::with(Fault::None), RECORDED, frames)
+}
+
 /// The comparison must find a fault that is made on purpose, and cut it down to a few records, of which the one that shows it makes this call,
 /// where one is named.
 pub fn finds<S: Side>(fault: Fault, call: &str, most: usize, what: &str) -> bool {

@@ -76,6 +76,7 @@ fn record(part: &str, folder: &str, frames: u64) -> bool {
         "sparse" => sparse::record(frames),
         _ => usage(),
     };
+    println!("{} records, {} bytes of answers", scripts.len() / script::RECORD, answers.len());
     let folder = std::path::Path::new(folder);
     std::fs::write(folder.join("stdin"), scripts).expect("the scripts are written");
     std::fs::write(folder.join("stdout"), answers).expect("the answers are written");

@@ -1,9 +1,8 @@
 //! Our side: the proved calls, linked into this process or behind a pipe.
 
+use std::ffi::OsString;
 use std::io::{Read, Write};
-use std::process::Child;
-#[cfg(not(feature = "linked"))]
-use std::process::{Command, Stdio};
+use std::process::{Child, Command};
 
 #[cfg(feature = "linked")]
 pub type Call = unsafe extern "C" fn(*const u8, usize, *mut u8, usize) -> usize;
@@ -23,6 +22,17 @@ pub enum Ours {
     Linked(Call, usize),
     #[cfg_attr(feature = "linked", allow(dead_code))]
     Pipe(Child),
+}
+
+/// A proved program in the folder PROBE_BIN, behind what PROBE_RUN names to run it, a word to a line.
+pub fn program(name: &str) -> Command {
+    let folder = std::env::var_os("PROBE_BIN").expect("PROBE_BIN names the folder of the programs");
+    let runs = std::env::var("PROBE_RUN").unwrap_or_default();
+    let mut words: Vec<OsString> = runs.lines().map(Into::into).collect();
+    words.push(std::path::Path::new(&folder).join(name).into());
+    let mut command = Command::new(&words[0]);
+    command.args(&words[1..]);
+    command
 }
 
 /// How many bytes stand before and past those that a linked call is lent, and what they hold.
@@ -74,21 +84,10 @@ impl Ours {
         Ours::Linked(part.linked, part.room)
     }
 
-    /// The part's program in the folder PROBE_BIN, behind the words of PROBE_RUN if those are needed to run it.
     #[cfg(not(feature = "linked"))]
     pub fn start(part: &Part) -> Ours {
-        let folder = std::env::var_os("PROBE_BIN").expect("PROBE_BIN names the folder of the programs");
-        let program = std::path::Path::new(&folder).join(part.program);
-        let line = std::env::var("PROBE_RUN").unwrap_or_default();
-        let mut words: Vec<std::ffi::OsString> = line.split_whitespace().map(Into::into).collect();
-        words.push(program.into());
-        let child = Command::new(&words[0])
-            .args(&words[1..])
-            .stdin(Stdio::piped())
-            .stdout(Stdio::piped())
-            .spawn()
-            .expect("the program behind the pipe runs");
-        Ours::Pipe(child)
+        let pipe = std::process::Stdio::piped;
+        Ours::Pipe(program(part.program).stdin(pipe()).stdout(pipe()).spawn().expect("the program behind the pipe runs"))
     }
 
     pub fn place(&self) -> &'static str {

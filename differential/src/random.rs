@@ -22,6 +22,17 @@ impl Random {
         self.below(n) == 0
     }
 
+    /// 128 bits, the higher ones first.
+    pub fn wide(&mut self) -> u128 {
+        (self.next() as u128) << 64 | self.next() as u128
+    }
+
+    /// A number by the weight beside it.
+    pub fn weighted(&mut self, from: &[(u8, u64)]) -> u8 {
+        let mut at = self.below(from.iter().map(|w| w.1).sum());
+        from.iter().find(|w| if at < w.1 { true } else { at -= w.1; false }).unwrap().0
+    }
+
     pub fn pick<T: Copy>(&mut self, from: &[T]) -> T {
         from[self.below(from.len() as u64) as usize]
     }

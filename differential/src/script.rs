@@ -37,6 +37,16 @@ pub fn mask_words(mask: u128) -> (u64, u64) {
     (mask as u64, (mask >> 64) as u64)
 }
 
+/// The mask of a universe of so many values, all of them held.
+pub fn full(width: i64) -> u128 {
+    if width >= 128 { u128::MAX } else if width <= 0 { 0 } else { (1u128 << width) - 1 }
+}
+
+/// The nearest i32.
+pub fn clamp(x: i64) -> i32 {
+    x.clamp(i32::MIN as i64, i32::MAX as i64) as i32
+}
+
 pub fn mask_text(mask: u128) -> String {
     format!("{:#x}:{:016x}", (mask >> 64) as u64, mask as u64)
 }

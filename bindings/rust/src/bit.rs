@@ -26,7 +26,8 @@ pub struct BitDomain<'a> {
 }
 
 impl<'a> BitDomain<'a> {
-    /// The values from `min` to `max` in either order, all held; more than 128 give a domain of no values.
+    /// The values from `min` to `max` in either order, all held; more than 128 give a domain of no values. [`Refusal::NoRoom`] where there
+    /// are fewer words than [`BIT_WORDS`].
     pub fn new(words: &'a mut [u64], min: Value, max: Value) -> Result<BitDomain<'a>, Refusal> {
         done(calls::new(words, min, max))?;
         Ok(BitDomain { words })
@@ -44,7 +45,8 @@ impl<'a> BitDomain<'a> {
         Ok(BitDomain { words })
     }
 
-    /// The domain that the words already hold: [`Refusal::Broken`] where they aren't a well-formed domain's.
+    /// The domain that the words already hold: [`Refusal::NoRoom`] where there are fewer than [`BIT_WORDS`], [`Refusal::Broken`] where they
+    /// aren't a well-formed domain's.
     pub fn open(words: &'a mut [u64]) -> Result<BitDomain<'a>, Refusal> {
         counted(calls::size(words))?;
         Ok(BitDomain { words })

@@ -34,8 +34,8 @@ mod linked {
         pub fn pirozhkan_get_domain_values(state: *const u64, words: usize, id: u32, cells: *mut i32, count: usize) -> u64;
         pub fn pirozhkan_variables(state: *const u64, words: usize, cells: *mut u32, count: usize) -> u64;
         pub fn pirozhkan_domains_changed(state: *const u64, words: usize) -> u64;
-        pub fn pirozhkan_wave(sheet: *const u8, bytes: usize, out: *mut u8, room: usize) -> u64;
         pub fn pirozhkan_reset_changed_flag(state: *mut u64, words: usize) -> u64;
+        pub fn pirozhkan_wave(sheet: *const u8, bytes: usize, out: *mut u8, room: usize) -> u64;
 
         pub fn pirozhkan_bit_new(state: *mut u64, words: usize, min: i32, max: i32) -> u64;
         pub fn pirozhkan_bit_new_empty(state: *mut u64, words: usize, min: i32, max: i32) -> u64;

@@ -1,8 +1,9 @@
 //! The chute assignment core of a tilt-tray sorter, over the proved library `libpirozhkan.a`.
 //!
 //! A [`Board`] holds up to 64 destinations and the chutes that each may still use. It lives in [`WORDS`] words that the caller
-//! lends, and may keep, copy and store as it likes. Each call looks at all of them first: words that aren't a well-formed board's
-//! are refused, and a refused call changes nothing. A [`BitDomain`] and a [`Sparse`] set live in lent words and cells in the same way.
+//! lends, and may keep, copy and store as it likes, on machines of one byte order. Each call looks at all of them first: words that
+//! aren't a well-formed board's are refused, and a refused call changes nothing. A [`BitDomain`] and a [`Sparse`] set live in lent words
+//! and cells in the same way.
 //!
 //! ```
 //! use pirozhkan::{Board, Pair, Value, Variable, WORDS};
@@ -65,15 +66,15 @@ pub enum Refusal {
     TooWide,
     /// An ordering has fewer cells than its universe has values.
     Short,
-    /// Bounds or a value where there is none.
+    /// Bounds where there is no value; the one value where there isn't just one.
     Empty,
     /// A restored state that doesn't fit the set.
     BadState,
-    /// Two sets over different bounds.
+    /// Two bit domains over different bounds. No call here takes two.
     OtherUniverse,
     /// Too few words for a state, or too few cells for an answer.
     NoRoom,
-    /// The input isn't a wave sheet, or a number in a batch is no kind.
+    /// A number in a batch is no kind. No call here gives it: a [`Kind`] is one, and [`wave`] tells of a bad sheet in its text.
     BadSheet(usize),
 }
 
@@ -159,7 +160,7 @@ pub const BATCH: usize = 256;
 /// What a propagation answers.
 #[derive(Clone, Copy, Debug, PartialEq, Eq, Hash)]
 pub struct Pair {
-    /// Whether a listed domain changed (of a stop in its second step: whether the first step changed one).
+    /// Whether a listed domain changed (after a stop in the second step: whether the first step changed one).
     pub changed: bool,
     /// Whether no domain was emptied.
     pub consistent: bool,
@@ -226,7 +227,8 @@ impl<'a> Board<'a> {
         Ok(Board { words })
     }
 
-    /// The board that the words already hold: [`Refusal::Broken`] where they aren't a well-formed board's.
+    /// The board that the words already hold: [`Refusal::NoRoom`] where there are fewer than [`WORDS`], [`Refusal::Broken`] where they
+    /// aren't a well-formed board's.
     pub fn open(words: &'a mut [u64]) -> Result<Board<'a>, Refusal> {
         told(calls::domains_changed(words))?;
         Ok(Board { words })
@@ -238,7 +240,8 @@ impl<'a> Board<'a> {
     }
 
     /// Registers a destination with the chutes from `min` to `max`, exchanged if reversed; a known one gets a new domain. More than
-    /// 128 values give a domain of no chutes. Refused while a mark is open, and a new destination on a full board.
+    /// 128 values give a domain of no chutes. [`Refusal::TrialOpen`] while a mark is open; [`Refusal::Full`] for a new destination
+    /// where 64 are registered.
     pub fn add_variable(&mut self, id: Variable, min: Value, max: Value) -> Result<(), Refusal> {
         done(calls::add_variable(self.words, id, min, max))
     }
@@ -269,7 +272,8 @@ impl<'a> Board<'a> {
         told(calls::remove_above(self.words, id, value))
     }
 
-    /// Applies the closings in order, and tells how many of them took a chute. More than [`BATCH`] are refused, and none is applied.
+    /// Applies the closings in order, and tells how many of them took a chute. More than [`BATCH`] are [`Refusal::TooLong`], and none is
+    /// applied.
     pub fn batch(&mut self, closings: &[Closing]) -> Result<usize, Refusal> {
         let (mut kinds, mut ids, mut values) = ([0; BATCH + 1], [Variable(0); BATCH + 1], [Value(0); BATCH + 1]);
         let n = closings.len().min(BATCH + 1);
@@ -279,7 +283,8 @@ impl<'a> Board<'a> {
         counted(calls::batch(self.words, &kinds[..n], &ids[..n], &values[..n]))
     }
 
-    /// Narrows the listed destinations so that each can have a chute of its own.
+    /// Narrows the listed destinations so that each can have a chute of its own. More than 64 are [`Refusal::TooLong`]; one that isn't
+    /// registered is [`Refusal::Unknown`], and one that stood earlier [`Refusal::Repeated`], at the leftmost such place.
     pub fn propagate_alldiff(&mut self, list: &[Variable]) -> Result<Pair, Refusal> {
         payload(calls::propagate_alldiff(self.words, list)).map(|n| Pair { changed: n & 1 == 1, consistent: n >> 1 == 1 })
     }
@@ -289,17 +294,17 @@ impl<'a> Board<'a> {
         told(calls::ready(self.words, list))
     }
 
-    /// Saves every domain, for [`Board::restore`].
+    /// Saves every domain, for [`Board::restore`]; [`Refusal::TooDeep`] where 8 marks are open.
     pub fn mark(&mut self) -> Result<(), Refusal> {
         done(calls::mark(self.words))
     }
 
-    /// Brings the newest mark's domains back, and closes it.
+    /// Brings the newest mark's domains back, and closes it; [`Refusal::NoMark`] where none is open.
     pub fn restore(&mut self) -> Result<(), Refusal> {
         done(calls::restore(self.words))
     }
 
-    /// Closes the newest mark, and keeps the domains as they are.
+    /// Closes the newest mark, and keeps the domains as they are; [`Refusal::NoMark`] where none is open.
     pub fn keep(&mut self) -> Result<(), Refusal> {
         done(calls::keep(self.words))
     }
@@ -309,12 +314,12 @@ impl<'a> Board<'a> {
         counted(calls::domain_size(self.words, id))
     }
 
-    /// Whether it is exactly one.
+    /// Whether that is exactly one.
     pub fn is_assigned(&self, id: Variable) -> Result<bool, Refusal> {
         told(calls::is_assigned(self.words, id))
     }
 
-    /// Whether there is none.
+    /// Whether it is none.
     pub fn is_inconsistent(&self, id: Variable) -> Result<bool, Refusal> {
         told(calls::is_inconsistent(self.words, id))
     }
@@ -350,7 +355,7 @@ impl<'a> Board<'a> {
         Ok(cells[..n].to_vec())
     }
 
-    /// Whether a domain changed since the flag was reset.
+    /// Whether a destination was registered, or a closing or the first step of a propagation took a chute, since the flag was reset.
     pub fn domains_changed(&self) -> Result<bool, Refusal> {
         told(calls::domains_changed(self.words))
     }

@@ -7,14 +7,19 @@ pub const SPARSE_CELLS: usize = 5;
 /// What [`Sparse::save_state`] keeps of a set.
 #[derive(Clone, Copy, Debug, PartialEq, Eq, Hash)]
 pub struct SparseState {
+    /// How many values are held.
     pub size: u32,
-    /// The smallest and the largest held offset.
+    /// The smallest held offset.
     pub min: u32,
+    /// The largest.
     pub max: u32,
 }
 
 /// The values of a universe of at most 4,096 that are held, in an order of their own: [`SPARSE_CELLS`] cells of state and two orderings, which
 /// have a cell for each value of the universe. The caller lends the three together.
+///
+/// Every call refuses fewer cells of state ([`Refusal::NoRoom`]), a universe of more values ([`Refusal::TooWide`]), an ordering of fewer cells
+/// than it has values ([`Refusal::Short`]), and then what isn't well formed ([`Refusal::Broken`]).
 ///
 /// ```
 /// use pirozhkan::{Sparse, Value, SPARSE_CELLS};
@@ -50,6 +55,11 @@ impl<'a> Sparse<'a> {
         Ok(Sparse { state, ind, val })
     }
 
+    // How many values the universe has, which the second cell of the state says.
+    fn universe(&self) -> u32 {
+        self.state[1]
+    }
+
     /// The state's cells and the two orderings.
     pub fn cells(&self) -> [&[u32]; 3] {
         [self.state, self.ind, self.val]
@@ -80,7 +90,8 @@ impl<'a> Sparse<'a> {
         done(calls::remove_above(self.state, self.ind, self.val, value))
     }
 
-    /// Keeps the values that the other set holds. Those that go are written into the scratch, which has as many cells as this set holds values.
+    /// Keeps the values that the other set holds. Those that go are written into the scratch; [`Refusal::NoRoom`] where it has fewer cells than
+    /// this set holds values.
     pub fn intersect_with(&mut self, other: &Sparse, scratch: &mut [Value]) -> Result<(), Refusal> {
         done(calls::intersect_with(self.state, self.ind, self.val, other.cells(), scratch))
     }
@@ -95,7 +106,7 @@ impl<'a> Sparse<'a> {
         done(calls::union_with(self.state, self.ind, self.val, other.cells()))
     }
 
-    /// What to restore later.
+    /// What to restore later, with [`Sparse::restore_state`].
     pub fn save_state(&self) -> Result<SparseState, Refusal> {
         let mut saved = [0; 3];
         done(calls::save_state(self.state, self.ind, self.val, &mut saved))?;
@@ -143,10 +154,9 @@ impl<'a> Sparse<'a> {
 
     /// The values of the universe that aren't held, in the set's own order.
     pub fn complement(&self) -> Result<Vec<Value>, Refusal> {
-        let size = self.size()?;
+        let (size, n) = (self.size()?, self.universe());
         // a copy of the state that holds the whole universe: its values are the held ones, then the others
         let mut state = self.state[..SPARSE_CELLS].to_vec();
-        let n = state[1];
         done(calls::restore_state(&mut state, self.ind, self.val, [n, 0, n.saturating_sub(1)]))?;
         let mut cells = vec![Value(0); n as usize];
         counted(calls::values(&state, self.ind, self.val, &mut cells))?;
@@ -156,7 +166,7 @@ impl<'a> Sparse<'a> {
     /// `[1,6,3|5,4,2]`: the held values, and the others of the universe.
     pub fn text(&self) -> Result<String, Refusal> {
         // a value takes at most 11 bytes, and a comma or the bar beside it
-        let mut text = vec![0; 12 * self.val.len() + 3];
+        let mut text = vec![0; 12 * self.universe() as usize + 3];
         let n = counted(calls::text(self.state, self.ind, self.val, &mut text))?;
         Ok(String::from_utf8_lossy(&text[..n]).into_owned())
     }

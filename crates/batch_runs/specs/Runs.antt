@@ -1,4 +1,4 @@
--- A batch out of three runs of numbers, and how it is written.
+-- A batch out of three runs of numbers: which runs are one, and its closings.
 use mathlib.Core.Bool.{Bool, _&&_, cond}
 use mathlib.Core.List.{List, [], _∷_}
 use Prim.Native.Nat.{ℕ, suc}

@@ -11,7 +11,7 @@ use closing::Kind;
 use rules::Value;
 use rules::Variable;
 
-// How a batch is written: as one, or why not.
+// What three runs are: a batch, or why not one.
 pub enum Form {
     Batch,
     Uneven,

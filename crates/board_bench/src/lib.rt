@@ -6,8 +6,6 @@
 // It is a crate of its own so that each call has one caller here, as in a program that works with a board in one place.
 ghost use Prim.Native.Nat.{_≤_};
 use board::Board;
-use board::Closed;
-use board::Settled;
 use board_spread::Pair;
 use domain::Counted;
 use domain::Outcome;

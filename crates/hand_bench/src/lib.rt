@@ -2,7 +2,6 @@
 // that the last one handed back, so that no turn can be left out.
 //
 // bench_many, bench_lent
-ghost use mathlib.Core.Path.{_≡_};
 ghost use Prim.Native.Nat.{_<_};
 use board::Board;
 use closing::Closing;

@@ -9,8 +9,9 @@
 // questions: pirozhkan_domain_size, pirozhkan_is_assigned, pirozhkan_assigned_value, pirozhkan_is_inconsistent,
 //            pirozhkan_get_bounds, pirozhkan_get_domain_values, pirozhkan_variables, pirozhkan_domains_changed
 //
-// Each is the by-value call of the same name between reading and writing the state. None has a `requires`: whatever the
-// words are, a call answers, and leaves words that are too few or that aren't a well-formed board's as they came.
+// Each is the by-value call of the same name between reading and writing the state; values and ids go out by the calls `.._into`, and
+// pirozhkan_batch is `batch::close_many`. None has a `requires`: whatever the words are, a call answers, and leaves words that are too few
+// or that aren't a well-formed board's as they came.
 pub mod batches;
 pub mod inner;
 pub mod lists;

@@ -6,7 +6,8 @@
 // ask: pirozhkan_bit_contains, pirozhkan_bit_size, pirozhkan_bit_fixed_value, pirozhkan_bit_min, pirozhkan_bit_max,
 //      pirozhkan_bit_values, pirozhkan_bit_text
 //
-// Each is the by-value call of the same name between reading and writing the words. None has a `requires`.
+// Each is the by-value call of the same name between reading and writing the words; values is `to_vec`, and text `write_text`. None has a
+// `requires`.
 pub mod ask;
 pub mod change;
 pub mod inner;

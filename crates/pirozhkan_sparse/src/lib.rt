@@ -8,7 +8,8 @@
 // ask: pirozhkan_sparse_contains, pirozhkan_sparse_size, pirozhkan_sparse_min, pirozhkan_sparse_max, pirozhkan_sparse_values,
 //      pirozhkan_sparse_text, pirozhkan_sparse_save_state
 //
-// Each is the by-value call of the same name between reading and writing the state. None has a `requires`.
+// Each is the by-value call of the same name between reading and writing the state; values is `to_vec`, and text `write_text`. None has a
+// `requires`.
 pub mod ask;
 pub mod change;
 pub mod inner;

@@ -3,9 +3,6 @@
 //
 // bench_sparse_contains, bench_sparse_remove: one test of the set, then a turn of the inner work for each value.
 // bench_sparse_call: one checked call, by the number that it has in scripts. bench_sparse_from_values: new_from_values.
-ghost use mathlib.Core.Path.{_≡_};
-ghost use Prim.Native.Nat.{_≤_};
-ghost use lib.ListN.{length};
 ghost use Rattle.sparse_inner.specs.Set.{Well};
 use rules::Value;
 use sparse::Found;

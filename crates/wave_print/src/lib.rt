@@ -2,9 +2,8 @@
 //
 // put_board, put_refusal
 //
-// The bytes must have room: no board's text is longer than MOST.
+// The bytes must have room: no board's text is longer than `most` of specs/Print, which is `wave::MOST`.
 ghost use mathlib.Core.Path.{_≡_};
-ghost use mathlib.Core.List.{[], _∷_, _++_};
 ghost use Prim.Native.Nat.{_+_, _≤_, _<_};
 ghost use lib.ListN.{length, take};
 ghost use Rattle.board.specs.View.{rowsOf, heldAt};

@@ -43,14 +43,6 @@ impl Made {
     }
 }
 
-fn clamp(x: i64) -> i32 {
-    x.clamp(i32::MIN as i64, i32::MAX as i64) as i32
-}
-
-fn full(width: i64) -> u128 {
-    if width >= 128 { u128::MAX } else if width <= 0 { 0 } else { (1u128 << width) - 1 }
-}
-
 /// What a scene is made of.
 struct Scene {
     /// Where its universes begin, by how much they are shifted, and how wide they are at most.
@@ -142,8 +134,8 @@ impl Scene {
             }
         };
         let width = max as i64 - min as i64 + 1;
-        let any = (rnd.next() as u128) << 64 | rnd.next() as u128;
-        let few = any & ((rnd.next() as u128) << 64 | rnd.next() as u128);
+        let any = rnd.wide();
+        let few = any & rnd.wide();
         let one = 1u128 << rnd.below(width as u64);
         let two = one | 1u128 << rnd.below(width as u64);
         let rare = if rnd.one_in(6) { 0 } else { two };
@@ -261,11 +253,6 @@ const WEIGHTED: &[(u8, u64)] = &[
     (op::SIZE, 3), (op::IS_ASSIGNED, 3), (op::ASSIGNED_VALUE, 4), (op::IS_INCONSISTENT, 3), (op::BOUNDS, 4), (op::CHUTES, 2), (op::NEXT_CHUTE, 5),
     (op::CHUTES_INTO, 3), (op::VARIABLES, 2), (op::NEXT_VARIABLE, 4), (op::VARIABLES_INTO, 2), (op::READY, 5), (op::PROPAGATE, 30),
 ];
-
-fn weighted(rnd: &mut Random) -> u8 {
-    let mut at = rnd.below(WEIGHTED.iter().map(|w| w.1).sum());
-    WEIGHTED.iter().find(|w| if at < w.1 { true } else { at -= w.1; false }).unwrap().0
-}
 
 /// A call by its number, with what it is given.
 fn call(rnd: &mut Random, s: &Scene, side: &RustSide, op: u8, out: &mut Vec<Record>) {
@@ -408,7 +395,7 @@ pub fn frame(rnd: &mut Random, side: &mut RustSide, made: &mut Made) -> (Vec<Rec
         } else if rnd.one_in(300) {
             more.push(Record::new(op::NEW));
         } else {
-            let op = weighted(rnd);
+            let op = rnd.weighted(WEIGHTED);
             call(rnd, &s, side, op, &mut more);
         }
         for r in more.drain(..) {

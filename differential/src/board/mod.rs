@@ -90,20 +90,6 @@ impl Side for Boards {
     }
 }
 
-/// Scripts from a seed, and the Rust's answers to them.
-fn sample(seed: u64, frames: u64) -> (Vec<u8>, Vec<u8>, RustSide, Made) {
-    let mut rnd = Random::new(seed);
-    let mut side = RustSide::new();
-    let mut made = Made::new();
-    let (mut scripts, mut answers) = (Vec::new(), Vec::new());
-    for _ in 0..frames {
-        let (records, rust) = generate::frame(&mut rnd, &mut side, &mut made);
-        scripts.extend_from_slice(&script::frame(&records));
-        answers.extend_from_slice(&rust);
-    }
-    (scripts, answers, side, made)
-}
-
 /// Whether a sample has every call, every refusal that a board gives, and every pair.
 fn is_whole(side: &RustSide) -> bool {
     let c = &side.counts;
@@ -112,10 +98,15 @@ fn is_whole(side: &RustSide) -> bool {
 
 /// The first sample that is whole, of the seeds from a fixed one on.
 pub fn record(frames: u64) -> (Vec<u8>, Vec<u8>) {
-    let (scripts, answers, side, made) = (20261115..).map(|seed| sample(seed, frames)).find(|s| is_whole(&s.2)).unwrap();
-    table(&side, &made);
-    println!("{} records, {} bytes of answers", frames * script::FRAME as u64, answers.len());
-    (scripts, answers)
+    for seed in compare::RECORDED.. {
+        let mut boards = Boards::with(Fault::None);
+        let sample = compare::sample(&mut boards, seed, frames);
+        if is_whole(&boards.side) {
+            table(&boards.side, &boards.made);
+            return sample;
+        }
+    }
+    unreachable!("some seed gives a whole sample")
 }
 
 pub fn quick() -> bool {

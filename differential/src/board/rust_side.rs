@@ -14,7 +14,7 @@ use std::collections::HashMap;
 pub struct Counts {
     pub calls: [u64; 256],
     pub refused: [u64; 16],
-    /// Calls on a board with a mark open, that isn't refused as broken.
+    /// Calls on well-formed boards with a mark open, those that close it among them.
     pub tried: u64,
     /// Calls on boards that aren't well formed.
     pub broken: u64,
@@ -24,7 +24,7 @@ pub struct Counts {
     /// Accepted propagations: by the list's length, and by the pair (changed, consistent) as 2 * changed + consistent.
     pub lists: [u64; 65],
     pub pairs: [u64; 4],
-    /// The deepest nesting that a call met, by marks open.
+    /// Calls on well-formed boards, by how many marks they leave open.
     pub depth: [u64; 9],
 }
 
@@ -102,7 +102,7 @@ impl RustSide {
         assert!(self.gac.domains.len() as u64 == p.count);
     }
 
-    /// How many cells a call would write that is lent some.
+    /// How many cells a call needs that is lent some.
     pub fn held(&self, r: &Record) -> usize {
         match r.op {
             op::CHUTES_INTO => self.gac.domain_size(var(r.n)),

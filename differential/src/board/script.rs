@@ -158,11 +158,6 @@ fn text(r: &Record) -> String {
     }
 }
 
-/// The bytes of a frame.
-pub fn frame(records: &[Record]) -> Vec<u8> {
-    crate::script::frame(records, FRAME)
-}
-
 /// An answer in words: what is said, what is left, and what stands behind it.
 fn said(_: &Record, answer: &Answer, behind: &[u8]) -> String {
     let [sum, count, marks] = answer.left;

@@ -8,10 +8,6 @@ use crate::random::Random;
 
 const WIDTHS: [i64; 16] = [1, 2, 3, 9, 40, 62, 63, 64, 65, 66, 100, 126, 127, 128, 128, 129];
 
-fn clamp(x: i64) -> i32 {
-    x.clamp(i32::MIN as i64, i32::MAX as i64) as i32
-}
-
 /// Bounds of a universe: mostly one that fits, at the places where sums and shifts go wrong.
 fn bounds(rnd: &mut Random) -> (i32, i32) {
     let width = if rnd.one_in(4) { 1 + rnd.below(130) as i64 } else { rnd.pick(&WIDTHS) };
@@ -58,13 +54,9 @@ fn value(rnd: &mut Random, (min, max): (i32, i32)) -> i32 {
     })
 }
 
-fn full(width: i64) -> u128 {
-    if width >= 128 { u128::MAX } else if width <= 0 { 0 } else { (1u128 << width) - 1 }
-}
-
 /// A mask for a universe of so many values: all, none, few bits, and now and then one bit too many.
 fn mask(rnd: &mut Random, width: i64) -> u128 {
-    let any = (rnd.next() as u128) << 64 | rnd.next() as u128;
+    let any = rnd.wide();
     let inside = full(width);
     let bit = |k: i64| 1u128 << k.clamp(0, 127);
     match rnd.below(12) {
@@ -128,9 +120,7 @@ const WEIGHTED: &[(u8, u64)] = &[
 
 /// Adds the next records of a script, which the Rust's side runs as they are made, so that they fit where it stands.
 fn step(rnd: &mut Random, side: &RustSide, out: &mut Vec<Record>) {
-    let total: u64 = WEIGHTED.iter().map(|w| w.1).sum();
-    let mut at = rnd.below(total);
-    let op = WEIGHTED.iter().find(|w| if at < w.1 { true } else { at -= w.1; false }).unwrap().0;
+    let op = rnd.weighted(WEIGHTED);
     let mut r = Record::new(op);
     r.a = rnd.below(4) as usize;
     r.b = rnd.below(4) as usize;

@@ -42,8 +42,8 @@ pub enum Rule {
 /// The rules in their order, by the names under which they are counted.
 pub const RULES: &[&str] = &["not well formed", "all i32 values", "a restored bit outside the universe", "no room"];
 
-/// Does a rule stand in the Rust's place? `domain` is register a, `other` register b, `restored` the mask to be restored,
-/// `values` the listed values of a call that is given a list.
+/// What the rules look at: `domain` is register a, `other` register b, `restored` the mask to be restored, `values` the listed values of
+/// a call that is given a list.
 pub struct Inputs<'a> {
     pub record: &'a Record,
     pub domain: (u128, i32, i32),
@@ -53,6 +53,7 @@ pub struct Inputs<'a> {
     pub values: &'a [i32],
 }
 
+/// The rule that stands in the Rust's place, if one does.
 pub fn rule(i: &Inputs) -> Option<Rule> {
     let (mask, min, max) = i.domain;
     let (min_given, max_given) = match i.record.op {

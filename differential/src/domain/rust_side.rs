@@ -63,7 +63,7 @@ fn no_room(counts: &mut Counts) -> Answer {
     refused(paper::NO_ROOM)
 }
 
-/// What stands over a cursor's smallest value: the original's iterator, begun from a domain that holds the cursor's mask.
+/// A domain that holds a cursor's mask over its smallest value: the original's iterator begins from it.
 fn begun(mask: u128, min: i32) -> BitSetDomain {
     let mut d = BitSetDomain::new_empty(min, min.saturating_add(127));
     d.restore_mask(mask);
@@ -94,7 +94,7 @@ impl RustSide {
         self.domains[a].fields()
     }
 
-    /// The text and the number of values, where a call that is lent cells would write them.
+    /// How many cells and how many bytes the calls need that are lent some; of fields that are no domain's, which they refuse, a few.
     pub fn sizes(&self, a: usize) -> (usize, usize) {
         match &self.domains[a] {
             Held::Rust(d) => (d.size(), d.to_string().len()),

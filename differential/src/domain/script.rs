@@ -109,11 +109,6 @@ fn text(r: &Record) -> String {
     }
 }
 
-/// The bytes of a frame.
-pub fn frame(records: &[Record]) -> Vec<u8> {
-    crate::script::frame(records, FRAME)
-}
-
 /// An answer in words: what is said, what is left, and the cells behind it.
 fn said(r: &Record, answer: &Answer, behind: &[u8]) -> String {
     let [lo, hi, bounds] = answer.left;

@@ -2,6 +2,7 @@
 
 use crate::bench::{Bench, Least, Limit, least};
 use crate::random::Random;
+use crate::script::bits;
 use selen_oracle::variables::domain::bitset_domain::BitSetDomain;
 use std::hint::black_box;
 
@@ -29,8 +30,9 @@ fn folded(d: &BitSetDomain) -> u64 {
     m as u64 ^ (m >> 64) as u64
 }
 
-fn biased(v: i32) -> u64 {
-    (v as u32 ^ 0x8000_0000) as u64
+/// A value as its distance from the least i32, as the loops of ours have it.
+fn distance(v: i32) -> u64 {
+    bits(v) as u64
 }
 
 #[inline(never)]
@@ -99,12 +101,12 @@ fn size(ds: &[BitSetDomain]) -> u64 {
 
 #[inline(never)]
 fn min(ds: &[BitSetDomain]) -> u64 {
-    ds.iter().fold(0, |sum, d| sum.wrapping_add(d.min().map_or(1000, biased)))
+    ds.iter().fold(0, |sum, d| sum.wrapping_add(d.min().map_or(1000, distance)))
 }
 
 #[inline(never)]
 fn max(ds: &[BitSetDomain]) -> u64 {
-    ds.iter().fold(0, |sum, d| sum.wrapping_add(d.max().map_or(1000, biased)))
+    ds.iter().fold(0, |sum, d| sum.wrapping_add(d.max().map_or(1000, distance)))
 }
 
 #[inline(never)]
@@ -117,7 +119,7 @@ fn iter(ds: &[BitSetDomain]) -> u64 {
     let mut sum = 0u64;
     for d in ds {
         for v in d.iter() {
-            sum = sum.wrapping_add(biased(v));
+            sum = sum.wrapping_add(distance(v));
         }
     }
     sum
@@ -150,7 +152,7 @@ fn inputs() -> Inputs {
         if k % 8 == 7 {
             d.remove_all_but(min + rnd.below(width as u64) as i32);
         } else {
-            d.restore_mask(d.get_mask() & ((rnd.next() as u128) << 64 | rnd.next() as u128));
+            d.restore_mask(d.get_mask() & rnd.wide());
         }
         i.lo.push(d.get_mask() as u64);
         i.hi.push((d.get_mask() >> 64) as u64);

@@ -11,6 +11,7 @@ use crate::domain::paper::{BROKEN, well};
 use crate::domain::rust_side::domain;
 use crate::ours::{Ours, Part};
 use crate::random::Random;
+use crate::script;
 use crate::tally::{self, ByNumber, Tally, grouped};
 use selen_oracle::constraints::gac_bitset::BitSetGAC;
 use selen_oracle::constraints::gac_hybrid::Variable;
@@ -32,9 +33,9 @@ const FRAME: usize = 8192;
 const REMOVALS: usize = 200;
 const CLOSINGS: usize = 256;
 
-/// A signed number as the frames have it: its distance from the least.
+/// A signed number as the frames have it, in a word.
 fn bits(v: i32) -> u64 {
-    (v as i64 - i32::MIN as i64) as u64
+    script::bits(v) as u64
 }
 
 fn put(frame: &mut [u8], word: usize, w: u64) {
@@ -66,13 +67,13 @@ fn value(rnd: &mut Random, min: i32, max: i32) -> i32 {
         4 => min as i64 + 64,
         _ => min as i64 + rnd.below((max as i64 - min as i64).clamp(0, 140) as u64 + 1) as i64,
     };
-    v.clamp(i32::MIN as i64, i32::MAX as i64) as i32
+    script::clamp(v)
 }
 
 fn random_mask(rnd: &mut Random) -> u128 {
-    let m = (rnd.next() as u128) << 64 | rnd.next() as u128;
+    let m = rnd.wide();
     match rnd.below(4) {
-        0 => m & ((rnd.next() as u128) << 64 | rnd.next() as u128),
+        0 => m & rnd.wide(),
         1 => 1u128 << rnd.below(128),
         2 => u128::MAX,
         _ => m,

@@ -7,10 +7,6 @@ use super::rust_side::RustSide;
 use super::script::*;
 use crate::random::Random;
 
-fn clamp(x: i64) -> i32 {
-    x.clamp(i32::MIN as i64, i32::MAX as i64) as i32
-}
-
 /// How many values a universe has.
 fn width(rnd: &mut Random) -> i64 {
     match rnd.below(600) {
@@ -66,12 +62,6 @@ const WEIGHTED: &[(u8, u64)] = &[
     (33, 40), (34, 1), (35, 3), (36, 8), (37, 8), (40, 6), (41, 10), (42, 6), (43, 6), (44, 6), (50, 10), (51, 12), (52, 5),
     (56, 3), (57, 10), (58, 3), (59, 10), (60, 5), (61, 5), (62, 2), (63, 9), (4, 2), (5, 3), (6, 3), (1, 5),
 ];
-
-fn random_op(rnd: &mut Random) -> u8 {
-    let total: u64 = WEIGHTED.iter().map(|w| w.1).sum();
-    let mut at = rnd.below(total);
-    WEIGHTED.iter().find(|w| if at < w.1 { true } else { at -= w.1; false }).unwrap().0
-}
 
 fn lend(a: usize, inds: usize, vals: usize) -> Record {
     Record { a, lo: pair(inds as u32, vals as u32), ..Record::new(4) }
@@ -149,7 +139,7 @@ fn altered(rnd: &mut Random, f: &Fields) -> Fields {
 
 /// Adds the next records of a script, which the Rust's side runs as they are made, so that they fit where it stands.
 fn step(rnd: &mut Random, side: &mut RustSide, out: &mut Vec<Record>) {
-    let op = random_op(rnd);
+    let op = rnd.weighted(WEIGHTED);
     let mut r = Record::new(op);
     r.a = rnd.below(2) as usize;
     r.b = rnd.below(4) as usize;

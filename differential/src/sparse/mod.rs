@@ -75,18 +75,8 @@ impl Side for RustSide {
     }
 }
 
-/// Scripts from a fixed seed, and the Rust's answers to them.
 pub fn record(frames: u64) -> (Vec<u8>, Vec<u8>) {
-    let mut rnd = Random::new(20261115);
-    let mut side = RustSide::new();
-    let (mut scripts, mut answers) = (Vec::new(), Vec::new());
-    for _ in 0..frames {
-        let (records, rust) = generate::frame(&mut rnd, &mut side);
-        scripts.extend_from_slice(&script::frame(&records));
-        answers.extend_from_slice(&rust);
-    }
-    println!("{} records, {} bytes of answers", frames * 256, answers.len());
-    (scripts, answers)
+    compare::record::<RustSide>(frames)
 }
 
 pub fn quick() -> bool {

@@ -185,7 +185,7 @@ impl RustSide {
         paper::refusal(&[self.sets[a].lent()])
     }
 
-    /// The number of values and the size of the text, where a call that is lent cells would write them.
+    /// How many cells and how many bytes the calls need that are lent some; of a set that they refuse, a few.
     pub fn sizes(&mut self, a: usize) -> (usize, usize) {
         if self.refusal(a).is_some() {
             return (3, 3);

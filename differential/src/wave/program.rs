@@ -2,19 +2,15 @@
 
 use super::generate;
 use super::rust_side;
+use crate::ours;
 use crate::random::Random;
 use std::io::Write;
-use std::process::{Command, Stdio};
+use std::process::Stdio;
 
 /// What the program writes, to both of its outputs.
 fn answer(input: &[u8], argument: Option<&std::path::Path>) -> (Vec<u8>, Vec<u8>) {
-    let folder = std::env::var_os("PROBE_BIN").expect("PROBE_BIN names the folder of the programs");
-    let line = std::env::var("PROBE_RUN").unwrap_or_default();
-    let mut words: Vec<std::ffi::OsString> = line.split_whitespace().map(Into::into).collect();
-    words.push(std::path::Path::new(&folder).join("wave_main").into());
-    words.extend(argument.map(|path| path.as_os_str().to_owned()));
-    let mut child = Command::new(&words[0])
-        .args(&words[1..])
+    let mut child = ours::program("wave_main")
+        .args(argument)
         .stdin(Stdio::piped())
         .stdout(Stdio::piped())
         .stderr(Stdio::piped())
