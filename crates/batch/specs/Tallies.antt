@@ -1,4 +1,4 @@
--- The same of the rows alone, which is what is left once the board is known to be well formed.
+-- A batch over the rows alone: what is left of it once the board is known to be well formed.
 use mathlib.Core.Path.{_≡_}
 use mathlib.Core.Bool.{Bool, true, false, cond}
 use mathlib.Core.List.{List, [], _∷_}

@@ -30,6 +30,7 @@ fn wide(x: u8) -> usize {
     x as usize
 }
 
+// Where an id stands: its hint is tried first.
 fn find<'a>(ids: &'a [u32; 64], hints: &'a [u8; 256], count: usize, id: u32) -> usize
     requires { ⌜ (count ≤ 64) × (differ (λ j. getD (now ids) j 0) count ≡ true) ⌝ }
     ensures { λ r. ⌜ r ≡ seatIn (λ j. getD (now (ids .entry)) j 0) count id ⌝ }
@@ -39,6 +40,7 @@ fn find<'a>(ids: &'a [u32; 64], hints: &'a [u8; 256], count: usize, id: u32) -> 
     board_list::find_from(ids, count, next, id)
 }
 
+// One more where a closing answered yes.
 fn counted(n: usize, yes: bool) -> usize
     requires { ⌜ n < 256 ⌝ }
     ensures { λ r. ⌜ r ≡ more yes n ⌝ }

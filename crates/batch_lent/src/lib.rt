@@ -1,5 +1,5 @@
 // A batch of closings lent as one run of records, of any length. The walk copies each record into a run of 256 and hands a full
-// one on; all the work is done by value, by `further`, which covers what the walk can't.
+// one on to `further`, which does all the work, by value.
 //
 // close_all; close_run lends a run held by value
 ghost use mathlib.Core.Path.{_≡_};

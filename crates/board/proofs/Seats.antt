@@ -80,7 +80,7 @@ module _ (id : ℕ → ℕ) where
   pub seat-none : (n x : ℕ) → ((k : ℕ) → k < n → id k ≡ x → ⊥) → seatIn id n x ≡ nowhere
   seat-none n x h = ⊎-elim (λ r. absurd (h (r .0) (r .1) (r .2))) (λ r. r .1) (seat-cases n x)
 
-  -- of at most 64, what has a seat stands there
+  -- what has a seat stands there
   pub seated : (n x : ℕ) → seatIn id n x < 64 → (seatIn id n x < n) × (id (seatIn id n x) ≡ x)
   seated n x h = ⊎-elim (λ r. rw (r .3) (r .1, r .2)) (λ r. absurd (omega (arith, r .1))) (seat-cases n x)
 

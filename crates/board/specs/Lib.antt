@@ -4,3 +4,4 @@ pub mod View
 pub mod Answers
 pub mod Obeys
 pub mod Worded
+pub mod Examples

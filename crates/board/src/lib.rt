@@ -2,12 +2,11 @@
 // and is handed back. What each call does is in the crates above; here is what they share: when a board is well formed,
 // and where a destination stands.
 //
-// look, seat_of
+// look
 ghost use mathlib.Core.Path.{_≡_};
 ghost use mathlib.Core.Bool.{true};
 ghost use Prim.Native.Nat.{_≤_, _<_};
 ghost use lib.ListN.{getD};
-ghost use Rattle.board.specs.Rows.{idAt, seatIn};
 ghost use Rattle.board.specs.Well.{newTo, differ, wellRow, lookOf};
 use domain::BitDomain;
 use domain::Outcome;
@@ -47,7 +46,7 @@ pub const NOWHERE: usize = 64;
 
 pub const BROKEN: usize = 65;
 
-// Whether no number before place i equals n. Nothing ends it early.
+// Whether no number before place i equals n. Nothing ends it early, so that several are tested at a time.
 fn is_new(ids: &[u32; 64], i: usize, n: u32) -> bool
     requires { ⌜ i ≤ 64 ⌝ }
     ensures { λ r. ⌜ r ≡ newTo (λ j. getD (now (ids .entry)) j 0) i n ⌝ }
@@ -82,7 +81,7 @@ fn distinct(ids: &[u32; 64], count: usize) -> bool
     true
 }
 
-// Whether each of the first `count` numbers is larger than the one before: then they differ. Nothing ends it early.
+// Whether each of the first `count` numbers is larger than the one before: then they differ. Nothing ends it early either.
 fn rise(ids: &[u32; 64], count: usize) -> bool
     requires { ⌜ count ≤ 64 ⌝ }
     ensures { λ r. ⌜ (r ≡ true → differ (λ j. getD (now (ids .entry)) j 0) count ≡ true) ⌝ }
@@ -145,20 +144,4 @@ pub fn look(rows: [Row; 64], count: usize, ws: &Saved, marks: usize, id: Variabl
         return BROKEN;
     }
     at
-}
-
-// The row of an id, for callers that know the board to be well formed.
-pub fn seat_of(rows: [Row; 64], count: usize, id: Variable) -> usize
-    requires { ⌜ (count ≤ 64) × (differ (idAt rows) count ≡ true) ⌝ }
-    ensures { λ r. ⌜ r ≡ seatIn (idAt rows) count (id .0) ⌝ }
-{
-    let mut i = 0;
-    while i < count {
-        let row = rows[i];
-        if row.id.0 == id.0 {
-            return i;
-        }
-        i += 1;
-    }
-    NOWHERE
 }

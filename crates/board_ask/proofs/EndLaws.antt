@@ -2,24 +2,17 @@
 use mathlib.Core.Path.{_≡_, refl, sym, ap, _∙_}
 use mathlib.Core.Bool.{Bool, true, false, cond}
 use mathlib.Core.List.{[], _∷_}
-use lib.Dec.{T}
 use lib.IntN.{ℤ}
 use lib.Signed.{ltZ}
 use Rattle.rules.specs.Board as rules
-use Rattle.rules.specs.Sets.{Chutes, has, some, Ascending, smallest, largest}
+use Rattle.rules.specs.Sets.{Chutes, some, Ascending, largest}
 use Rattle.rules.specs.declared.Refusal.the-variants.{Empty}
-use Rattle.rules.proofs.Tests.{is-true, is-false}
-use Rattle.rules.proofs.SetLaws.{has-head, has-tail}
-use Rattle.rules.proofs.InOrder.{less-irrefl, less-trans}
+use Rattle.rules.proofs.Tests.{is-true}
+use Rattle.rules.proofs.SetLaws.{has-head}
+use Rattle.rules.proofs.InOrder.{smallest-first}
 use Rattle.domain.specs.Calls.{at, firstOf, lastOf, onlyOf}
 use Rattle.board_ask.specs.Questions.{both}
 use Rattle.board_ask.specs.Answers.{chuteOf, endsTold}
-
-first-smallest : (x : ℤ) (s : Chutes) → ((y : ℤ) → T (has y s) → T (ltZ x y)) → smallest x s ≡ x
-first-smallest x [] h = refl
-first-smallest x (y ∷ s) h =
-    let n : ltZ y x ≡ false = is-false (ltZ y x) (λ t. less-irrefl x (less-trans x y x (h y (has-head y s)) t)) in
-    rw n (first-smallest x s (λ z k. h z (has-tail z y s k)))
 
 last-largest : (x : ℤ) (s : Chutes) → Ascending (x ∷ s) → lastOf (x ∷ s) ≡ at (largest x s)
 last-largest x [] a = refl
@@ -29,7 +22,7 @@ pub ends-are : (s : Chutes) → Ascending s → endsTold (both (firstOf s) (last
 ends-are [] a = refl
 ends-are (x ∷ s) a =
     ap (λ f. endsTold (both (at x) f)) (last-largest x s a)
-    ∙ ap (λ (z : ℤ). rules.ends z (largest x s)) (sym (first-smallest x s (a .0)))
+    ∙ ap (λ (z : ℤ). rules.ends z (largest x s)) (sym (smallest-first x s a))
 
 pub only-is : (s : Chutes) → chuteOf (onlyOf s) ≡ rules.judged (rules.unless (rules.single s) Empty rules.accepted) (rules.onlyOf s)
 only-is [] = refl

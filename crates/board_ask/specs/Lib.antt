@@ -3,3 +3,4 @@ pub mod Questions
 pub mod Names
 pub mod Ready
 pub mod Answers
+pub mod Examples

@@ -16,7 +16,7 @@ use rules::Variable;
 use saved::Saved;
 
 // The domain that a question is about.
-pub enum Sought {
+enum Sought {
     Domain(BitDomain),
     Broken,
 }

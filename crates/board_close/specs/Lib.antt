@@ -1,1 +1,2 @@
 pub mod Close
+pub mod Examples

@@ -85,6 +85,7 @@ pub fn remove_above(b: Board, id: Variable, v: Value) -> Closed
     close(b, Kind::Above, id, v)
 }
 
+// Any id will do for the check. A flag that is set stays only where the board is refused.
 pub fn reset_changed_flag(b: Board) -> Settled
     ensures { λ r. ⌜ r ≡ resetOf b ⌝ }
 {

@@ -42,7 +42,7 @@ pub fn new() -> Board
     }
 }
 
-// 0 where a registration is accepted, else the number of its refusal: at is what `look` answered.
+// 0 where a registration is accepted, else the number of its refusal: `at` is what `look` answered.
 fn judge(at: usize, count: usize, marks: usize) -> usize
     ensures { λ r. ⌜ r ≡ judgeOf at count marks ⌝ }
 {
@@ -61,6 +61,7 @@ fn judge(at: usize, count: usize, marks: usize) -> usize
     2
 }
 
+// The answer that such a number stands for.
 fn settle(number: usize) -> Outcome
     ensures { λ r. ⌜ r ≡ settleOf number ⌝ }
 {
@@ -83,6 +84,7 @@ fn place_for(at: usize, count: usize) -> usize
     if at < board::NOWHERE { at } else { count }
 }
 
+// How many rows there are then.
 fn grown(at: usize, count: usize) -> usize
     requires { ⌜ count ≤ 64 ⌝ }
     ensures { λ r. ⌜ r ≡ grownTo at count ⌝ }

@@ -1,11 +1,12 @@
 -- Where the ids of a list stand, or why the list is refused.
-use mathlib.Core.Path.{_≡_}
-use mathlib.Core.List.{List, [], map}
-use Prim.Native.Nat.{ℕ, _<_}
+use mathlib.Core.Path.{_≡_, refl}
+use mathlib.Core.List.{List, [], _∷_, map}
+use Prim.Native.Nat.{ℕ, _+_, _<_}
 use lib.ListN.{length, getD, take}
 use lib.Seq.{sets}
 use Rattle.rules.specs.Board as rules
 use Rattle.rules.specs.Refusals.{placeOf}
+use Rattle.rules.specs.declared.Refusal.the-variants.{Unknown, Repeated}
 use Rattle.domain.specs.declared.Outcome.{Outcome}
 use Rattle.domain.specs.declared.Outcome.the-variants as outcome
 use Rattle.board.specs.Rows.{seatIn}
@@ -43,3 +44,21 @@ placedBy v seat is at = placed (answerOf v) (sets at 0 (map seat (take (passed v
 -- among the first n ids
 unfoldable pub placesOf : (ℕ → ℕ) → ℕ → List ℕ → List ℕ → Placed
 placesOf id n is at = placedBy (verdictOf id n is) (seatIn id n) is at
+
+-- ---- by example: the ids 20, 21 and 22 are registered
+
+abbrev at : List ℕ → Placed
+at is = placesOf (λ k. k + 20) 3 is (9 ∷ 9 ∷ 9 ∷ [])
+
+two : at (22 ∷ 20 ∷ []) ≡ placed outcome.Done (2 ∷ 0 ∷ 9 ∷ [])
+unfolding placesOf
+two = refl
+
+-- 99 isn't, and it stands before the one that is repeated
+unknown : at (21 ∷ 99 ∷ 21 ∷ []) ≡ placed (outcome.Refused (Unknown 1)) (1 ∷ 9 ∷ 9 ∷ [])
+unfolding placesOf
+unknown = refl
+
+repeated : at (21 ∷ 22 ∷ 21 ∷ []) ≡ placed (outcome.Refused (Repeated 2)) (1 ∷ 2 ∷ 9 ∷ [])
+unfolding placesOf
+repeated = refl

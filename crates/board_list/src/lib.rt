@@ -83,7 +83,7 @@ pub fn ids_of(rows: [Row; 64], count: usize) -> [u32; 64]
     ids
 }
 
-// The same of a board's rows.
+// As `places`, by the rows of a board.
 pub fn seats(rows: [Row; 64], count: usize, list: &[u32], at: &mut [usize; 64]) -> Outcome
     requires { ⌜ (count ≤ 64) × (differ (idAt rows) count ≡ true) ⌝ }
     ensures { λ r. ⌜ placed r (now (at .exit)) ≡ placesOf (idAt rows) count (now (list .entry)) (now (at .entry)) ⌝ }

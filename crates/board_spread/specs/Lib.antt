@@ -1,2 +1,3 @@
 pub mod Gather
 pub mod Spread
+pub mod Examples

@@ -42,7 +42,7 @@ prunedBy (rules.refused r) rows ps = record { rows = rows; raised = false; answe
 unfoldable pub prunedOf : List Row → ℕ → List ℕ → Pruned
 prunedOf rows count is = prunedBy (verdictOf (idAt rows) count is) rows (map (seatIn (idAt rows) count) is)
 
--- rows that are well formed, on a board with no mark
+-- rows that are well formed: they are those of a board with no mark
 abbrev pub soundRows : List Row → ℕ → Bool
 soundRows rows count = wellParts rows count [] 0
 

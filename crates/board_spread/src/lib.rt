@@ -14,7 +14,7 @@ use rules::Variable;
 
 pub mod inner;
 
-// Whether the listed domains changed, and whether no domain was emptied; or why the list was refused.
+// 01's pair, (changed, consistent), or why the call was refused. After a stop in step 2 `changed` tells of step 1 only.
 pub enum Pair {
     Is(bool, bool),
     Refused(Refusal),

@@ -24,7 +24,8 @@ use Rattle.board_ask.specs.Answers.{countOf, chuteOf, endsTold, heldBy}
 use Rattle.trial.specs.Marks.{markOf, restoreOf, keepOf}
 use Rattle.trial.specs.Calls.{Step}
 
--- `propagate` is propagate_alldiff, and `variables` a whole walk of its cursor. `close` is remove_value, assign_variable, remove_below and remove_above; `add` and `addValues` are add_variable and add_variable_with_values
+-- `close` is remove_value, assign_variable, remove_below and remove_above; `batch` is every form of a batch; `add` and `addValues` are add_variable and
+-- add_variable_with_values; `propagate` is propagate_alldiff, and `variables` a whole walk of its cursor. The `_into` forms tell the same into lent cells
 pub data Made : Type 0 where
   close : rules.Kind → Variable → Value → Made
   batch : List Closing → Made

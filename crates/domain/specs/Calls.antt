@@ -44,21 +44,21 @@ ordered f a b = cond (ltZ (b .0) (a .0)) (f (b .0) (a .0)) (f (a .0) (b .0))
 abbrev pub narrow : ℤ → ℤ → Bool
 narrow lo hi = leb (spanOf lo hi) offsets
 
--- what a universe from lo to hi gives: over as many values, no domain, or a refusal
+-- a universe from lo to hi; one that is too wide gives no domain, or a refusal
 unfoldable pub betweenOf : Bool → ℤ → ℤ → BitDomain
 betweenOf all lo hi = cond (narrow lo hi) (filled all lo hi) invalid
 
 unfoldable pub tryBetweenOf : Bool → ℤ → ℤ → Made
 tryBetweenOf all lo hi = cond (narrow lo hi) (made.Domain (filled all lo hi)) (made.Refused TooWide)
 
--- `new` and `new_empty`, of which nothing is held
+-- `new`, of which all is held, and `new_empty`, of which nothing is
 unfoldable pub newOf : Bool → Value → Value → BitDomain
 newOf all a b = ordered (betweenOf all) a b
 
 unfoldable pub tryNewOf : Bool → Value → Value → Made
 tryNewOf all a b = ordered (tryBetweenOf all) a b
 
--- ---- ask: of a domain that isn't well formed, nothing
+-- ---- ask: a domain that isn't well formed is refused
 
 abbrev pub tells : BitDomain → Bool → Told
 tells d b = cond (well d) (told.Is b) (told.Refused Broken)
@@ -120,7 +120,7 @@ minUniverseOf d = finds d (at (d .min))
 unfoldable pub maxUniverseOf : BitDomain → Found
 maxUniverseOf d = finds d (at (d .max))
 
--- ---- change: of a domain that isn't well formed, nothing
+-- ---- change: a domain that isn't well formed is refused, and comes back as it came
 
 abbrev pub changes : BitDomain → Chutes → Bool → Changed
 changes d s b = record { domain = cond (well d) (holding d s) d; answer = tells d b }

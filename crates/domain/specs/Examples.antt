@@ -1,6 +1,6 @@
 -- The definitions, run. Each is by computation alone.
 use mathlib.Core.Path.{_≡_, refl}
-use mathlib.Core.Bool.{Bool, true, false}
+use mathlib.Core.Bool.{true, false}
 use mathlib.Core.List.{[], _∷_}
 use lib.IntN.{ℤ, pos, negsuc}
 use Rattle.mask.specs.Val.{val, maskOf}
@@ -15,7 +15,8 @@ use Rattle.domain.specs.declared.Told.the-variants as told
 use Rattle.domain.specs.declared.Counted.the-variants as counted
 use Rattle.domain.specs.declared.Found.the-variants as found
 use Rattle.domain.specs.Set.{setOf, valuesOf, well, bitsOf}
-use Rattle.domain.specs.Calls.{invalid, newOf, tryNewOf, betweenOf, tryBetweenOf, at, sizeOf, minOf, maxOf, fixedValueOf, insertOf, removeOf, closeOf}
+use Rattle.domain.specs.declared.Outcome.the-variants as outcome
+use Rattle.domain.specs.Calls.{invalid, newOf, tryNewOf, betweenOf, tryBetweenOf, at, isInvalidOf, containsOf, sizeOf, isEmptyOf, isFixedOf, minOf, maxOf, fixedValueOf, universeSizeOf, minUniverseOf, maxUniverseOf, insertOf, removeOf, removeAllOf, closeOf}
 
 abbrev v : ℤ → Value
 v x = record { 0 = x }
@@ -32,6 +33,42 @@ five-size : sizeOf five ≡ counted.Count 5
 unfolding five newOf betweenOf valuesOf bitsOf spanOf val maskOf membersFrom membersIn well sizeOf
 five-size = refl
 
+five-largest : maxOf five ≡ at (pos 3)
+unfolding five newOf betweenOf maxOf valuesOf bitsOf spanOf val maskOf membersFrom membersIn well
+five-largest = refl
+
+five-contains : containsOf five (v (negsuc 0)) ≡ told.Is true
+unfolding five newOf betweenOf containsOf valuesOf bitsOf spanOf val maskOf membersFrom membersIn well
+five-contains = refl
+
+five-not-fixed : isFixedOf five ≡ told.Is false
+unfolding five newOf betweenOf isFixedOf valuesOf bitsOf spanOf val maskOf membersFrom membersIn well
+five-not-fixed = refl
+
+no-one-value : fixedValueOf five ≡ found.Refused Empty
+unfolding five newOf betweenOf fixedValueOf valuesOf bitsOf spanOf val maskOf membersFrom membersIn well
+no-one-value = refl
+
+-- nothing held, over the same universe
+none : BitDomain
+none = newOf false (v (negsuc 0)) (v (pos 3))
+
+none-empty : isEmptyOf none ≡ told.Is true
+unfolding newOf betweenOf none isEmptyOf valuesOf bitsOf spanOf val maskOf membersFrom membersIn well
+none-empty = refl
+
+none-universe : universeSizeOf none ≡ counted.Count 5
+unfolding newOf betweenOf none universeSizeOf bitsOf spanOf val maskOf well
+none-universe = refl
+
+none-from : minUniverseOf none ≡ at (negsuc 0)
+unfolding newOf betweenOf none minUniverseOf bitsOf spanOf val maskOf well
+none-from = refl
+
+one-in : insertOf none (v (pos 2)) ≡ record { domain = closeOf assign five (v (pos 2)) .domain; answer = told.Is true }
+unfolding five newOf betweenOf none insertOf closeOf valuesOf bitsOf spanOf val maskOf membersFrom membersIn well
+one-in = refl
+
 -- 129 values: the invalid pair, which is well formed and holds nothing, or a refusal
 wide : newOf true (v (pos 0)) (v (pos 128)) ≡ invalid
 unfolding newOf betweenOf spanOf
@@ -44,6 +81,14 @@ wide-refused = refl
 all-of-i32 : tryNewOf true (v (negsuc 2147483647)) (v (pos 2147483647)) ≡ made.Refused TooWide
 unfolding tryNewOf tryBetweenOf spanOf
 all-of-i32 = refl
+
+wide-invalid : isInvalidOf invalid ≡ told.Is true
+unfolding isInvalidOf bitsOf spanOf val maskOf well
+wide-invalid = refl
+
+wide-to : maxUniverseOf invalid ≡ at (pos 0)
+unfolding maxUniverseOf bitsOf spanOf val maskOf well
+wide-to = refl
 
 nothing-smallest : minOf invalid ≡ found.Refused Empty
 unfolding valuesOf bitsOf spanOf val maskOf membersFrom membersIn well minOf
@@ -77,6 +122,10 @@ up-to-one = refl
 all-but-one : fixedValueOf (closeOf assign five (v (pos 1)) .domain) ≡ at (pos 1)
 unfolding five newOf betweenOf closeOf fixedValueOf valuesOf bitsOf spanOf val maskOf membersFrom membersIn well
 all-but-one = refl
+
+all-out : removeAllOf five ≡ record { domain = none; answer = outcome.Done }
+unfolding five newOf betweenOf none removeAllOf valuesOf bitsOf spanOf val maskOf membersFrom membersIn well
+all-out = refl
 
 -- a mask bit beyond the universe, and bounds that stand for no universe but aren't one of the two pairs
 beyond : sizeOf (record { mask = maskOf 4; min = pos 5; max = pos 6 }) ≡ counted.Refused Broken

@@ -4,7 +4,6 @@ ghost use mathlib.Core.Bool.{true, not, _&&_};
 ghost use mathlib.Core.List.{[]};
 ghost use Prim.Native.Nat.{_<_};
 ghost use lib.IntN.{pos, _+ℤ_};
-ghost use lib.ListN.{length};
 ghost use Rattle.rules.specs.Sets.{has, keep};
 ghost use Rattle.rules.specs.Board.{leaves, remove, assign, below, above};
 ghost use Rattle.mask.specs.Val.{val};
@@ -73,6 +72,7 @@ pub fn with_mask(d: BitDomain, m: Mask) -> BitDomain
     next
 }
 
+// Whether a value is held.
 pub fn holds(d: BitDomain, v: Value) -> bool
     requires { ⌜ well d ≡ true ⌝ }
     ensures { λ r. ⌜ r ≡ has (v .0) (setOf d) ⌝ }
@@ -84,6 +84,7 @@ pub fn holds(d: BitDomain, v: Value) -> bool
     mask::has(d.mask, k)
 }
 
+// With the value v, where the universe has it.
 pub fn including(d: BitDomain, v: Value) -> BitDomain
     requires { ⌜ well d ≡ true ⌝ }
     ensures { λ r. ⌜ r ≡ holding d (including d v) ⌝ }
@@ -95,6 +96,7 @@ pub fn including(d: BitDomain, v: Value) -> BitDomain
     with_mask(d, mask::with(d.mask, k))
 }
 
+// What the closings by v leave: all but v; v alone; the values from v on; those up to v.
 pub fn without(d: BitDomain, v: Value) -> BitDomain
     requires { ⌜ well d ≡ true ⌝ }
     ensures { λ r. ⌜ r ≡ holding d (keep (leaves remove (v .0)) (setOf d)) ⌝ }
@@ -145,6 +147,7 @@ pub fn admits(d: BitDomain, v: Value) -> bool
     !mask::has(d.mask, k)
 }
 
+// Nothing held.
 pub fn emptied(d: BitDomain) -> BitDomain
     ensures { λ r. ⌜ r ≡ holding d [] ⌝ }
 {

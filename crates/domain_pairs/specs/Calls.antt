@@ -1,12 +1,11 @@
 -- What each call answers and what it hands back, on every input.
-use mathlib.Core.Bool.{Bool, true, _&&_, _||_, cond}
-use mathlib.Core.List.{[], _∷_}
+use mathlib.Core.Bool.{Bool, _&&_, _||_, cond}
 use Prim.Native.Nat.{_^_}
 use lib.Dec.{ltb}
 use lib.ListN.{length}
 use Rattle.mask.specs.Val.{val, maskOf}
 use Rattle.mask.specs.declared.Mask.{Mask}
-use Rattle.rules.specs.Sets.{Chutes, same, has, keep, some, strike}
+use Rattle.rules.specs.Sets.{Chutes, same, has, every, keep, some, strike}
 use Rattle.rules.specs.declared.Refusal.{Refusal}
 use Rattle.rules.specs.declared.Refusal.the-variants.{Broken, BadState, OtherUniverse}
 use Rattle.domain.specs.declared.BitDomain.{BitDomain}
@@ -27,8 +26,7 @@ use Rattle.domain_pairs.specs.declared.Kept.the-variants as kept
 
 -- every value of s is one of t
 abbrev pub within : Chutes → Chutes → Bool
-within [] t = true
-within (x ∷ s) t = has x t && within s t
+within s t = every (λ x. has x t) s
 
 -- the values that both domains hold
 abbrev pub both : BitDomain → BitDomain → Chutes
@@ -46,7 +44,7 @@ done d = record { domain = d; answer = outcome.Done }
 abbrev pub refused : BitDomain → Refusal → Narrowed
 refused d why = record { domain = d; answer = outcome.Refused why }
 
--- ---- two domains: of a pair of which one isn't well formed, nothing
+-- ---- two domains: refused unless both are well formed
 
 abbrev pub bothWell : BitDomain → BitDomain → Bool
 bothWell d e = well d && well e

@@ -1,4 +1,5 @@
-// Two domains. Unless both are well formed, nothing; bounds that differ are refused where the answer is a set, and are a no where it is yes or no.
+// Two domains. Unless both are well formed the call is refused. Bounds that differ are refused where the answer is a set, and are a no where it is
+// yes or no.
 ghost use mathlib.Core.Path.{_≡_};
 ghost use Rattle.domain_pairs.specs.Calls.{bothWell, sameBounds, intersectOf, unionOf, isSubsetOf, equalsOf, unionMaskOf};
 use super::Masked;

@@ -14,7 +14,6 @@ use domain::Told;
 use domain::inner;
 use mask::Mask;
 use rules::Refusal;
-use rules::Value;
 
 // Bits outside the universe do nothing.
 pub fn remove_by_mask(d: BitDomain, m: Mask) -> Changed

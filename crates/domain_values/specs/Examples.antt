@@ -12,8 +12,9 @@ use Rattle.domain.specs.Calls.{invalid}
 use Rattle.domain.specs.declared.BitDomain.{BitDomain}
 use Rattle.domain.specs.declared.Counted.the-variants as counted
 use Rattle.domain.specs.declared.Made.the-variants as made
-use Rattle.domain_values.specs.Calls.{wellCursor, cursorOf, nextOf, leftOf, written, toVecOf, nothing, fromValuesOf, tryFromValuesOf}
+use Rattle.domain_values.specs.Calls.{wellCursor, cursorOf, iterOf, nextOf, leftOf, written, toVecOf, nothing, fromValuesOf, tryFromValuesOf}
 use Rattle.domain_values.specs.Runs.{yields, after}
+use Rattle.domain_values.specs.declared.Begun.the-variants as begun
 use Rattle.domain_values.specs.declared.Yielded.the-variants as yielded
 
 -- in any order, and with repeats
@@ -23,6 +24,14 @@ three = fromValuesOf (pos 3 ∷ negsuc 0 ∷ pos 3 ∷ pos 0 ∷ [])
 held : setOf three ≡ negsuc 0 ∷ pos 0 ∷ pos 3 ∷ []
 unfolding three fromValuesOf valuesOf bitsOf spanOf val maskOf membersFrom membersIn
 held = refl
+
+at-first : iterOf three ≡ begun.Cursor (cursorOf three)
+unfolding three fromValuesOf valuesOf bitsOf spanOf val maskOf membersFrom membersIn iterOf well
+at-first = refl
+
+all-left : leftOf (cursorOf three) ≡ counted.Count 3
+unfolding three fromValuesOf valuesOf bitsOf spanOf val maskOf membersFrom membersIn leftOf wellCursor
+all-left = refl
 
 walked : yields 4 (cursorOf three) ≡ negsuc 0 ∷ pos 0 ∷ pos 3 ∷ []
 unfolding three fromValuesOf valuesOf bitsOf spanOf val maskOf membersFrom membersIn nextOf wellCursor
@@ -59,10 +68,19 @@ past-the-last : leftOf (record { mask = maskOf 3; min = pos 2147483647 }) ≡ co
 unfolding valuesOf val maskOf membersFrom membersIn wellCursor leftOf
 past-the-last = refl
 
+-- which is refused, and handed back as it came
+no-step : nextOf (record { mask = maskOf 3; min = pos 2147483647 }) ≡ record { cursor = record { mask = maskOf 3; min = pos 2147483647 }; answer = yielded.Refused Broken }
+unfolding valuesOf val maskOf membersFrom membersIn wellCursor nextOf
+no-step = refl
+
 -- no values; 129 values from the smallest to the largest
 none : fromValuesOf [] ≡ nothing
 unfolding fromValuesOf
 none = refl
+
+none-tried : tryFromValuesOf [] ≡ made.Domain nothing
+unfolding tryFromValuesOf
+none-tried = refl
 
 wide : fromValuesOf (pos 64 ∷ negsuc 63 ∷ []) ≡ invalid
 unfolding fromValuesOf spanOf

@@ -11,7 +11,7 @@ use domain::inner;
 use rules::Refusal;
 use rules::Value;
 
-// The greatest value, and the greatest smallest value over which every mask's values lie within i32.
+// The greatest i32, and the greatest start of a universe from which every mask's values lie within i32.
 const LAST: i32 = 2147483647;
 
 const ROOMY: i32 = LAST - 127;

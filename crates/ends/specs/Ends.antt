@@ -1,7 +1,8 @@
 -- The first of some values in an order: the smallest, and the largest. Assumes nothing.
+use mathlib.Core.Path.{_≡_, refl}
 use mathlib.Core.Bool.{Bool, cond}
 use mathlib.Core.List.{List, [], _∷_}
-use lib.IntN.{ℤ, pos}
+use lib.IntN.{ℤ, pos, negsuc}
 use lib.Signed.{ltZ}
 
 -- of x and the values of s, by the test that one stands before another
@@ -19,3 +20,11 @@ smallestOf = firstOf ltZ
 
 abbrev pub largestOf : List ℤ → ℤ
 largestOf = firstOf (λ y x. ltZ x y)
+
+-- ---- by example
+
+least : smallestOf (pos 3 ∷ negsuc 4 ∷ pos 0 ∷ []) ≡ negsuc 4
+least = refl
+
+most : largestOf (negsuc 4 ∷ negsuc 0 ∷ negsuc 8 ∷ []) ≡ negsuc 0
+most = refl

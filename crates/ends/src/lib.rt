@@ -1,4 +1,4 @@
-// The smallest and the largest of some lent values.
+// The smallest and the largest of some lent values, of which there is one at least.
 ghost use mathlib.Core.Path.{_≡_};
 ghost use mathlib.Core.Bool.{cond};
 ghost use Prim.Native.Nat.{_<_};

@@ -180,7 +180,7 @@ leading-highest k n p h =
     let at : t .0 ≡ k - 1 - leadingZeros k n = omega arith in
     (omega arith, subst (λ (x : ℕ). Highest n x) at (top-highest n (t .0) (t .2) (t .3)))
 
--- a number that is not 0 has a set bit, and a number with a set bit is not 0
+-- a number with a set bit is not 0
 pub pos-of-bit : (n k : ℕ) → bit n k ≡ 1 → zero < n
 pos-of-bit zero k e = absurd (zero-ne (sym (ap (λ (x : ℕ). x % 2) (zero-div (2 ^ k))) ∙ e))
   where

@@ -4,3 +4,4 @@ pub mod Words
 pub mod Val
 pub mod Ends
 pub mod Sets
+pub mod Examples

@@ -1,28 +1,24 @@
 -- A natural number as a set of offsets: what a domain above the masks reasons by. `In n k`: offset k is in the set n. Assumes nothing.
 use mathlib.Core.Path.{_≡_, refl, sym, ap, ap₂, _∙_, subst}
 use mathlib.Core.Logic.{_⊎_, inl, inr, _↔_, ⊎-elim}
-use mathlib.Core.Bool.{Bool, true, false, not, cond}
+use mathlib.Core.Bool.{true}
 use mathlib.Core.List.{List, [], _∷_, _++_, List·Memᴰ, List·Memᴰ·head, List·Memᴰ·tail, List·Memᴰ·cases-cons, List·Memᴰ·not-nil, List·Memᴰ·eq-of-singleton, List·Memᴰ·append-cases, Memᴰ·cast, Memᴰ·append-left, Memᴰ·append-right}
 use Prim.Native.Nat.{ℕ, zero, suc, _+_, _-_, _*_, _/_, _%_, _^_, _≤_, _<_, zero-le, min, max}
-use native.Mathlib.Nat.{lt-of-not-le, not-le-of-lt, le-refl, le-trans, le-antisymm, le-of-suc-le-suc, not-suc-le-zero, le-suc, zero-lt-suc, mod-lt, zero-div, add-zero, zero-add, add-suc, suc-add, one-mul, sub-zero}
+use native.Mathlib.Nat.{le-refl, le-trans, le-antisymm, not-suc-le-zero, le-suc, zero-lt-suc, mod-lt, zero-div, add-zero, zero-add, add-suc, suc-add, one-mul, sub-zero}
 use native.Mathlib.Decide.{le-ind, decLe, decLt, ℕ-discrete}
 use native.Mathlib.Omega.{arith}
 use lib.ListN.{length}
-use lib.Dec.{lit<, eqb, ltb, leb, T, T-not, not-T, eqb→eq, eqb-refl, ltb→lt, lt→ltb, leb→le, le→leb}
+use lib.Dec.{lit<, eqb}
 use borrow.Author.Tests.{eqb-true, eq-eqb}
 use lib.Arith.{lt-of-le-ne, half-le, bin-ind, digits-div, digits-mod}
-use lib.Pow.{pow-pos, pow-lt}
-use lib.Bits.{bitAnd, bitOr, and-step, or-step, or-lt, mask-lt}
+use lib.Pow.{pow-pos}
+use lib.Bits.{bitAnd, bitOr, and-step, or-lt, mask-lt}
 use lib.Count.{ones, ones-step, ones-cat}
 use Rattle.mask.specs.Bit.{bit, bitMinus, minus-step, bit-and, bit-or, bit-minus, bit-low, bit-half, bit-lt, bit-pow-same, bit-pow-below, bit-pow-above, bit-above, bit-ones-below, bit-ones-above, ext, Lowest, Highest, has-lowest, lowest-half, minus-low, minus-high}
 use Rattle.mask.specs.Tests.{eqb-iff}
 
 abbrev pub In : ℕ → ℕ → Type 0
 In n k = bit n k ≡ 1
-
--- 0 or 1: what a bit that is not set is
-pub out-bit : (n k : ℕ) → (In n k → ⊥) → bit n k ≡ 0
-out-bit n k f = omega arith
 
 pub in-dec : (n k : ℕ) → (In n k) ⊎ (In n k → ⊥)
 in-dec n k = go (ℕ-discrete (bit n k) 1)
@@ -118,20 +114,9 @@ same-digit (suc x) y hx hy f g =
 pub same-set : (a b : ℕ) → ((k : ℕ) → In a k → In b k) → ((k : ℕ) → In b k → In a k) → a ≡ b
 same-set a b f g = ext a b (λ k. same-digit (bit a k) (bit b k) (bit-lt a k) (bit-lt b k) (f k) (g k))
 
--- ---- how many: the sum rules
+-- ---- how many members
 join-ones : (q r : ℕ) → r < 2 → ones (q * 2 + r) ≡ ones q + r
 join-ones q r h = ones-step (q * 2 + r) ∙ ap₂ (λ (x y : ℕ). x + ones y) (digits-mod q h) (digits-div q h) ∙ omega arith
-
-pub ones-or-and : (a b : ℕ) → ones (bitOr a b) + ones (bitAnd a b) ≡ ones a + ones b
-unfolding ones
-ones-or-and a =
-    bin-ind (λ (n : ℕ). (b : ℕ) → ones (bitOr n b) + ones (bitAnd n b) ≡ ones n + ones b) (λ b. omega arith) (λ n ih b. step n b (ih (b / 2))) a
-  where
-    step : (n b : ℕ) → ones (bitOr (n / 2) (b / 2)) + ones (bitAnd (n / 2) (b / 2)) ≡ ones (n / 2) + ones (b / 2) → ones (bitOr n b) + ones (bitAnd n b) ≡ ones n + ones b
-    step n b e =
-        ap₂ (λ (x y : ℕ). ones x + ones y) (or-step n b) (and-step n b)
-        ∙ ap₂ (λ (x y : ℕ). x + y) (join-ones (bitOr (n / 2) (b / 2)) (max (n % 2) (b % 2)) (omega arith)) (join-ones (bitAnd (n / 2) (b / 2)) (min (n % 2) (b % 2)) (omega arith))
-        ∙ omega (arith, ones-step n, ones-step b)
 
 pub ones-minus-and : (a b : ℕ) → ones (bitMinus a b) + ones (bitAnd a b) ≡ ones a
 unfolding ones
@@ -281,10 +266,6 @@ pub member-in : (n k : ℕ) → List·Memᴰ k (members n) ↔ In n k
 member-in n k = (λ h. subst (λ (x : ℕ). In n x) (sub-zero k) (members-in 0 n k h .1), λ h. Memᴰ·cast (sym (zero-add k)) (in-members 0 n k h))
 
 -- ---- an ascending list is given by what it holds
-pub ascends-from : (b c : ℕ) (l : List ℕ) → b ≤ c → Ascends c l → Ascends b l
-ascends-from b c [] h s = tt
-ascends-from b c (x ∷ xs) h s = (le-trans h (s .0), s .1)
-
 pub ascends-above : (b k : ℕ) (l : List ℕ) → Ascends b l → List·Memᴰ k l → b ≤ k
 ascends-above b k [] h m = absurd (List·Memᴰ·not-nil m)
 ascends-above b k (x ∷ xs) h m = by (List·Memᴰ·cases-cons m) (λ l. ascends-above (suc x) k xs (h .1) l)
@@ -305,133 +286,17 @@ same-list b c (x ∷ xs) (y ∷ ys) hx hy f g =
     later : (x y : ℕ) (xs ys : List ℕ) → x ≡ y → Ascends (suc x) xs → ((k : ℕ) → List·Memᴰ k (x ∷ xs) → List·Memᴰ k (y ∷ ys)) → (k : ℕ) → List·Memᴰ k xs → List·Memᴰ k ys
     later x y xs ys e h f k m = ⊎-elim (λ q. absurd (omega (arith, ascends-above (suc x) k xs h m))) (λ l. l) (List·Memᴰ·cases-cons (f k (List·Memᴰ·tail m)))
 
--- equal lists, equal sets
-pub members-inj : (a b : ℕ) → members a ≡ members b → a ≡ b
-members-inj a b e =
-    same-set a b (λ k h. member-in b k .0 (subst (λ (l : List ℕ). List·Memᴰ k l) e (member-in a k .1 h)))
-    (λ k h. member-in a k .0 (subst (λ (l : List ℕ). List·Memᴰ k l) (sym e) (member-in b k .1 h)))
-
 pub members-none : members 0 ≡ []
 unfolding membersFrom membersIn
 members-none = refl
 
-pub members-one : (k : ℕ) → members (2 ^ k) ≡ k ∷ []
-members-one k =
-    same-list 0 0 (members (2 ^ k)) (k ∷ []) (members-ascend 0 (2 ^ k)) (zero-le, tt)
-    (λ j m. List·Memᴰ·head (in-one k j .0 (member-in (2 ^ k) j .0 m)))
-    (λ j m. member-in (2 ^ k) j .1 (in-one k j .1 (List·Memᴰ·eq-of-singleton m)))
-
--- 0, 1, .., n - 1
+-- n numbers from `from` on; 0, 1, .., n - 1
 abbrev pub countUp : ℕ → ℕ → List ℕ
 countUp from zero = []
 countUp from (suc n) = from ∷ countUp (suc from) n
 
 abbrev pub upTo : ℕ → List ℕ
 upTo n = countUp 0 n
-
-count-ascends : (from n : ℕ) → Ascends from (countUp from n)
-count-ascends from zero = tt
-count-ascends from (suc n) = (le-refl from, count-ascends (suc from) n)
-
-count-in : (from n k : ℕ) → List·Memᴰ k (countUp from n) → k < from + n
-count-in from zero k m = absurd (List·Memᴰ·not-nil m)
-count-in from (suc n) k m = ⊎-elim (λ e. omega arith) (λ l. omega (arith, count-in (suc from) n k l)) (List·Memᴰ·cases-cons m)
-
-in-count : (from n k : ℕ) → from ≤ k → k < from + n → List·Memᴰ k (countUp from n)
-in-count from zero k h l = absurd (omega arith)
-in-count from (suc n) k h l = by (ℕ-discrete k from) (in-count (suc from) n k)
-  where
-    by : Dec (k ≡ from) → (suc from ≤ k → k < suc from + n → List·Memᴰ k (countUp (suc from) n)) → List·Memᴰ k (from ∷ countUp (suc from) n)
-    by (yes e) f = List·Memᴰ·head e
-    by (no d) f = List·Memᴰ·tail (f (omega arith) (omega arith))
-
-pub members-range : (n : ℕ) → members (2 ^ n - 1) ≡ upTo n
-members-range n =
-    same-list 0 0 (members (2 ^ n - 1)) (upTo n) (members-ascend 0 (2 ^ n - 1)) (count-ascends 0 n)
-    (λ k m. in-count 0 n k zero-le (subst (λ (x : ℕ). k < x) (sym (zero-add n)) (in-first n k .0 (member-in (2 ^ n - 1) k .0 m))))
-    (λ k m. member-in (2 ^ n - 1) k .1 (in-first n k .1 (subst (λ (x : ℕ). k < x) (zero-add n) (count-in 0 n k m))))
-
--- ---- a set given by a test on another's members has the members that pass, in their order
-abbrev pub sift : (ℕ → Bool) → List ℕ → List ℕ
-sift p [] = []
-sift p (x ∷ xs) = cond (p x) (x ∷ sift p xs) (sift p xs)
-
-pub sift-in : (p : ℕ → Bool) (l : List ℕ) (k : ℕ) → List·Memᴰ k (sift p l) ↔ ((List·Memᴰ k l) × T (p k))
-sift-in p [] k = (λ m. absurd (List·Memᴰ·not-nil m), λ w. absurd (List·Memᴰ·not-nil (w .0)))
-sift-in p (x ∷ xs) k = go (p x) refl (sift-in p xs k)
-  where
-    go : (b : Bool) → p x ≡ b → (List·Memᴰ k (sift p xs) ↔ ((List·Memᴰ k xs) × T (p k)))
-        → List·Memᴰ k (cond b (x ∷ sift p xs) (sift p xs)) ↔ ((List·Memᴰ k (x ∷ xs)) × T (p k))
-    go true e ih = (
-      λ m. ⊎-elim (λ q. (List·Memᴰ·head q, subst T (sym (ap p q ∙ e)) tt)) (λ l. (List·Memᴰ·tail (ih .0 l .0), ih .0 l .1)) (List·Memᴰ·cases-cons m),
-      λ w. ⊎-elim (λ q. List·Memᴰ·head q) (λ l. List·Memᴰ·tail (ih .1 (l, w .1))) (List·Memᴰ·cases-cons (w .0)),
-    )
-    go false e ih = (
-      λ m. (List·Memᴰ·tail (ih .0 m .0), ih .0 m .1),
-      λ w. ⊎-elim (λ q. absurd (subst T (ap p q ∙ e) (w .1))) (λ l. ih .1 (l, w .1)) (List·Memᴰ·cases-cons (w .0)),
-    )
-
-pub sift-ascends : (p : ℕ → Bool) (b : ℕ) (l : List ℕ) → Ascends b l → Ascends b (sift p l)
-sift-ascends p b [] h = tt
-sift-ascends p b (x ∷ xs) h = go (p x) (sift-ascends p (suc x) xs (h .1))
-  where
-    go : (t : Bool) → Ascends (suc x) (sift p xs) → Ascends b (cond t (x ∷ sift p xs) (sift p xs))
-    go true ih = (h .0, ih)
-    go false ih = ascends-from b (suc x) (sift p xs) (omega (arith, h .0)) ih
-
-pub members-sift : (p : ℕ → Bool) (a b : ℕ) → ((k : ℕ) → In b k ↔ ((In a k) × T (p k))) → members b ≡ sift p (members a)
-members-sift p a b h = same-list 0 0 (members b) (sift p (members a)) (members-ascend 0 b) (sift-ascends p 0 (members a) (members-ascend 0 a)) passes stays
-  where
-    passes : (k : ℕ) → List·Memᴰ k (members b) → List·Memᴰ k (sift p (members a))
-    passes k m =
-        let w = h k .0 (member-in b k .0 m) in
-        sift-in p (members a) k .1 (member-in a k .1 (w .0), w .1)
-
-    stays : (k : ℕ) → List·Memᴰ k (sift p (members a)) → List·Memᴰ k (members b)
-    stays k m =
-        let w = sift-in p (members a) k .0 m in
-        member-in b k .1 (h k .1 (member-in a k .0 (w .0), w .1))
-
-eq-T : (a b : ℕ) → a ≡ b → T (eqb a b)
-eq-T a b q = subst (λ (x : ℕ). T (eqb a x)) q (eqb-refl a)
-
-pub members-and : (a b : ℕ) → members (bitAnd a b) ≡ sift (λ k. eqb (bit b k) 1) (members a)
-members-and a b =
-    members-sift (λ k. eqb (bit b k) 1) a (bitAnd a b)
-    (λ k. (λ e. (in-and a b k .0 e .0, eq-T (bit b k) 1 (in-and a b k .0 e .1)), λ w. in-and a b k .1 (w .0, eqb→eq (bit b k) 1 (w .1))))
-
-pub members-minus : (a b : ℕ) → members (bitMinus a b) ≡ sift (λ k. not (eqb (bit b k) 1)) (members a)
-members-minus a b =
-    members-sift (λ k. not (eqb (bit b k) 1)) a (bitMinus a b)
-    (λ k. (
-      λ e. (in-minus a b k .0 e .0, not-T (eqb (bit b k) 1) (λ t. in-minus a b k .0 e .1 (eqb→eq (bit b k) 1 t))),
-      λ w. in-minus a b k .1 (w .0, λ q. T-not (eqb (bit b k) 1) (w .1) (eq-T (bit b k) 1 q)),
-    ))
-
-pub members-without : (n k : ℕ) → members (bitMinus n (2 ^ k)) ≡ sift (λ j. not (eqb j k)) (members n)
-members-without n k =
-    members-sift (λ j. not (eqb j k)) n (bitMinus n (2 ^ k))
-    (λ j. (
-      λ e. (in-without n k j .0 e .0, not-T (eqb j k) (λ t. in-without n k j .0 e .1 (eqb→eq j k t))),
-      λ w. in-without n k j .1 (w .0, λ q. T-not (eqb j k) (w .1) (eq-T j k q)),
-    ))
-
--- below the offset k, and from it on
-pub members-below : (n k : ℕ) → members (bitAnd n (2 ^ k - 1)) ≡ sift (λ j. ltb j k) (members n)
-members-below n k =
-    members-sift (λ j. ltb j k) n (bitAnd n (2 ^ k - 1))
-    (λ j. (
-      λ e. (in-and n (2 ^ k - 1) j .0 e .0, lt→ltb j k (in-first k j .0 (in-and n (2 ^ k - 1) j .0 e .1))),
-      λ w. in-and n (2 ^ k - 1) j .1 (w .0, in-first k j .1 (ltb→lt j k (w .1))),
-    ))
-
-pub members-from : (n k : ℕ) → members (bitMinus n (2 ^ k - 1)) ≡ sift (λ j. leb k j) (members n)
-members-from n k =
-    members-sift (λ j. leb k j) n (bitMinus n (2 ^ k - 1))
-    (λ j. (
-      λ e. (in-minus n (2 ^ k - 1) j .0 e .0, le→leb k j (le-of-suc-le-suc (lt-of-not-le (λ l. in-minus n (2 ^ k - 1) j .0 e .1 (in-first k j .1 l))))),
-      λ w. in-minus n (2 ^ k - 1) j .1 (w .0, λ q. not-le-of-lt (in-first k j .0 q) (leb→le k j (w .1))),
-    ))
 
 -- ---- the highest member comes last
 pub highest-above : (n r k : ℕ) → Highest n r → In n k → k ≤ r
@@ -440,22 +305,6 @@ highest-above n r k p h = go (decLe k r)
     go : Dec (k ≤ r) → k ≤ r
     go (yes l) = l
     go (no f) = absurd (omega (arith, p .above k (omega arith)))
-
--- the last of a list, or d where it is empty
-abbrev pub lastOf : List ℕ → ℕ → ℕ
-lastOf [] d = d
-lastOf (x ∷ xs) d = lastOf xs x
-
-last-is : (b r d : ℕ) (l : List ℕ) → Ascends b l → List·Memᴰ r l → ((k : ℕ) → List·Memᴰ k l → k ≤ r) → lastOf l d ≡ r
-last-is b r d [] h m f = absurd (List·Memᴰ·not-nil m)
-last-is b r d (x ∷ []) h m f = sym (List·Memᴰ·eq-of-singleton m)
-last-is b r d (x ∷ y ∷ ys) h m f = last-is (suc x) r x (y ∷ ys) (h .1) (⊎-elim (λ e. absurd (clash e)) (λ l. l) (List·Memᴰ·cases-cons m)) (λ k l. f k (List·Memᴰ·tail l))
-  where
-    clash : r ≡ x → ⊥
-    clash e = omega (arith, h .1 .0, f y (List·Memᴰ·tail (List·Memᴰ·head refl)))
-
-pub members-last : (n r d : ℕ) → Highest n r → lastOf (members n) d ≡ r
-members-last n r d p = last-is 0 r d (members n) (members-ascend 0 n) (member-in n r .1 (p .set)) (λ k m. highest-above n r k p (member-in n k .0 m))
 
 ascends-end : (b r : ℕ) (l : List ℕ) → b ≤ r → Ascends b l → ((k : ℕ) → List·Memᴰ k l → k < r) → Ascends b (l ++ (r ∷ []))
 ascends-end b r [] h s f = (h, tt)
@@ -488,6 +337,7 @@ subset-in a b = (
   λ f. same-set (bitAnd a b) a (λ k h. in-and a b k .0 h .0) (λ k h. in-and a b k .1 (h, f k h)),
 )
 
+-- the same of the test
 pub subset : (a b : ℕ) → (eqb (bitAnd a b) a ≡ true) ↔ ((k : ℕ) → In a k → In b k)
 subset a b = (λ t. subset-in a b .0 (eqb-true (bitAnd a b) a t), λ f. eq-eqb (bitAnd a b) a (subset-in a b .1 f))
 
@@ -544,6 +394,3 @@ minus-below a b n h = fits-in (bitMinus a b) n .1 (λ k e. in-lt a n k h (in-min
 
 pub or-below : (a b n : ℕ) → a < 2 ^ n → b < 2 ^ n → bitOr a b < 2 ^ n
 or-below a b n ha hb = or-lt n a b ha hb
-
-pub one-below : (k n : ℕ) → k < n → 2 ^ k < 2 ^ n
-one-below k n h = pow-lt h

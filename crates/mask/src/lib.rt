@@ -13,6 +13,7 @@ ghost use Rattle.mask.specs.Words.{FirstWord, LastWord};
 ghost use Rattle.mask.specs.Val.{val, offsets, words, wordsOf};
 ghost use Rattle.mask.specs.Ends.{endsBy};
 
+// How many offsets there is room for.
 pub const OFFSETS: usize = 128;
 
 pub struct Mask {
@@ -20,12 +21,14 @@ pub struct Mask {
     pub hi: u64,
 }
 
+// The set of none.
 pub fn empty() -> Mask
     ensures { λ r. ⌜ val r ≡ 0 ⌝ }
 {
     Mask { lo: 0, hi: 0 }
 }
 
+// What is in both; in either; in m and not in n.
 pub fn and(m: Mask, n: Mask) -> Mask
     ensures { λ r. ⌜ val r ≡ bitAnd (val m) (val n) ⌝ }
 {
@@ -68,6 +71,7 @@ fn part(k: usize, from: usize) -> u64
     (1u64 << d) - 1
 }
 
+// The k lowest offsets.
 pub fn first_n(k: usize) -> Mask
     requires { ⌜ k ≤ offsets ⌝ }
     ensures { λ r. ⌜ val r ≡ 2 ^ k - 1 ⌝ }
@@ -152,6 +156,7 @@ fn set_word(m: Mask, i: usize, w: u64) -> Mask
     }
 }
 
+// Is k a member?
 pub fn has(m: Mask, k: usize) -> bool
     requires { ⌜ k < offsets ⌝ }
     ensures { λ r. ⌜ r ≡ eqb (bit (val m) k) 1 ⌝ }
@@ -160,6 +165,7 @@ pub fn has(m: Mask, k: usize) -> bool
     (word(m, k / 64) >> j) & 1 == 1
 }
 
+// m with k; k alone; m without k.
 pub fn with(m: Mask, k: usize) -> Mask
     requires { ⌜ k < offsets ⌝ }
     ensures { λ r. ⌜ val r ≡ bitOr (val m) (2 ^ k) ⌝ }
@@ -193,6 +199,7 @@ pub fn same(m: Mask, n: Mask) -> bool
     if m.lo == n.lo { m.hi == n.hi } else { false }
 }
 
+// How many members.
 pub fn count(m: Mask) -> usize
     ensures { λ r. ⌜ (r ≡ ones (val m)) × (r ≤ offsets) ⌝ }
 {
@@ -220,6 +227,7 @@ fn last_word(m: Mask) -> usize
     0
 }
 
+// The lowest member, and the highest.
 pub fn lowest(m: Mask) -> usize
     requires { ⌜ 0 < val m ⌝ }
     ensures { λ r. ⌜ (Lowest (val m) r) × (r < offsets) ⌝ }

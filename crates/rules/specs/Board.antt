@@ -44,6 +44,7 @@ abbrev pub put : Rows → ℕ → Chutes → Rows
 put [] i d = []
 put (r ∷ rs) i d = cond (eqb i (r .id)) (record { id = r .id; chutes = d } ∷ rs) (r ∷ put rs i d)
 
+-- and others for several, one after another
 abbrev pub puts : Rows → List ℕ → List Chutes → Rows
 puts rs [] ds = rs
 puts rs (i ∷ is) [] = rs
@@ -90,6 +91,7 @@ pub record Closing : Type 0 where
 abbrev pub tells : Closing → Rows → Bool
 tells k rs = closes (k .kind) (k .value) (domain rs (k .id))
 
+-- the rows after a closing, and the board, whose flag it sets if it answers yes
 abbrev pub shut : Closing → Rows → Rows
 shut k rs = put rs (k .id) (keep (leaves (k .kind) (k .value)) (domain rs (k .id)))
 
@@ -224,6 +226,7 @@ answer c b = judged (refusal c b) (reply c b)
 
 -- ---- what a call leaves
 
+-- what the newest mark saved, and rs where there is none; the marks but the newest
 abbrev pub newest : Rows → List Rows → Rows
 newest rs [] = rs
 newest rs (t ∷ s) = t

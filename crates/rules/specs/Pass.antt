@@ -20,7 +20,7 @@ pick (b ∷ m) [] = []
 pick (true ∷ m) (x ∷ l) = x ∷ pick m l
 pick (false ∷ m) (x ∷ l) = pick m l
 
--- all choices of k of n places, in lexicographic order
+-- all choices of k of n places, in lexicographic order: of three places two are 0 1, 0 2, 1 2
 abbrev pub choose : ℕ → ℕ → List Places
 choose zero zero = [] ∷ []
 choose zero (suc k) = []
@@ -75,7 +75,7 @@ chain f (m ∷ ms) ds = next (f m ds) (λ es. chain f ms es)
 abbrev pub tight : Places → List Chutes → Bool
 tight m ds = eqb (length (union (pick m ds))) (length (pick m ds))
 
--- if m is tight in ds, remove the values that it has there from what is outside m in es
+-- Hall's rule: if m is tight in ds, remove the values that it has there from what is outside m in es
 abbrev pub hall : Places → List Chutes → List Chutes → Swept
 hall m ds es = cond (tight m ds) (sweep m (union (pick m ds)) es) (still es)
 

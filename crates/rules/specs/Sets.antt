@@ -1,5 +1,6 @@
 -- Finite sets of chutes as lists of ℤ. What is said of them goes by membership: the pass and the trials ask neither that a list ascend nor that
 -- it hold a chute once. A registered domain does both (`ascending`), so that its length is its size.
+use mathlib.Core.Path.{_≡_, refl}
 use mathlib.Core.Bool.{Bool, true, false, not, _&&_, _||_, cond}
 use mathlib.Core.List.{List, [], _∷_, _++_}
 use lib.Dec.{T, eqb}
@@ -41,6 +42,7 @@ abbrev pub once : Chutes → Chutes
 once [] = []
 once (x ∷ s) = cond (has x s) (once s) (x ∷ once s)
 
+-- the members of several sets, with repeats
 abbrev pub all : List Chutes → Chutes
 all [] = []
 all (s ∷ ss) = s ++ all ss
@@ -74,6 +76,23 @@ smallest x (y ∷ s) = smallest (cond (ltZ y x) y x) s
 abbrev pub largest : ℤ → Chutes → ℤ
 largest x [] = x
 largest x (y ∷ s) = largest (cond (ltZ x y) y x) s
+
+-- ---- by example
+
+pub struck : strike (pos 2 ∷ pos 9 ∷ []) (pos 1 ∷ pos 2 ∷ pos 3 ∷ []) ≡ pos 1 ∷ pos 3 ∷ []
+struck = refl
+
+pub joined : union ((pos 1 ∷ pos 2 ∷ []) ∷ (pos 2 ∷ pos 3 ∷ []) ∷ []) ≡ pos 1 ∷ pos 2 ∷ pos 3 ∷ []
+joined = refl
+
+pub sorted : ascending (pos 3 ∷ negsuc 0 ∷ pos 3 ∷ pos 0 ∷ []) ≡ negsuc 0 ∷ pos 0 ∷ pos 3 ∷ []
+sorted = refl
+
+pub least : smallest (pos 3) (negsuc 0 ∷ negsuc 4 ∷ []) ≡ negsuc 4
+least = refl
+
+pub most : largest (negsuc 4) (negsuc 0 ∷ negsuc 8 ∷ []) ≡ negsuc 0
+most = refl
 
 -- ---- what is said of lists and sets
 

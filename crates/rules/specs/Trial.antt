@@ -38,6 +38,7 @@ note release rs (f ∷ g ∷ l) = (f ++ g) ∷ l
 note reset rs (f ∷ l) = f ∷ l
 note (ask q) rs (f ∷ l) = f ∷ l
 
+-- the calls noted one after another; a refused one is left out
 abbrev pub log : List Call → Board → Log → Log
 log [] b l = l
 log (c ∷ cs) b l = log cs (act c b) (cond (taken c b) (note c (b .now) l) l)

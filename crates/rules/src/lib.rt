@@ -1,6 +1,6 @@
 // What every crate of the sorter shares: the name of a destination, a chute, and why a call was refused.
-// The rules of 01 are in specs/, in plain finite sets: Sets; Pass with Table; Board (calls, answers, refusals); Trial (what a trial keeps); Cases
-// and Sample are worked out. What follows from them is in proofs/: Sound (the pass), CallLaws and WellFormed (every call), Trials (demand 3);
+// The rules of 01 are in specs/, in plain finite sets: Sets; Pass with Table; Board (calls, answers, refusals); Refusals (their numbers and places);
+// Trial (what a trial keeps); Cases and Sample are worked out. What follows from them is in proofs/: Sound (the pass), CallLaws and WellFormed (every call), Trials (demand 3);
 // Tests, SetLaws, InOrder, RowLaws and Loops serve those who build on it.
 ghost use mathlib.Core.Path.{_≡_};
 ghost use Rattle.rules.specs.Refusals.{numberOf, placeOf};

@@ -8,13 +8,13 @@ ghost use Rattle.mask.specs.Val.{val};
 ghost use Rattle.saved.specs.Saved.{savedAt, putAt, fitUnder};
 use mask::Mask;
 
-// How many marks may be open, and how many rows a board has.
+// How many marks may be open.
 pub const MARKS: usize = 8;
 
-pub const ROWS: usize = 64;
-
+// Two words for a mask, 64 rows for a mark.
 pub type Saved = [u64; 1024];
 
+// The mask that mark m saved for row i.
 pub fn at(ws: &Saved, m: usize, i: usize) -> Mask
     requires { ⌜ (m < 8) × (i < 64) ⌝ }
     ensures { λ r. ⌜ r ≡ savedAt (now (ws .entry)) m i ⌝ }
@@ -26,6 +26,7 @@ pub fn at(ws: &Saved, m: usize, i: usize) -> Mask
     }
 }
 
+// x is saved there.
 pub fn put(ws: &mut Saved, m: usize, i: usize, x: Mask)
     requires { ⌜ (m < 8) × (i < 64) ⌝ }
     ensures { λ r. ⌜ now (ws .exit) ≡ putAt (now (ws .entry)) m i x ⌝ }

@@ -144,6 +144,7 @@ pub fn max_universe_value(s: Sparse, ind: &[u32], val: &[u32]) -> Found
     }
 }
 
+// How many values of the universe are not held.
 pub fn complement_size(s: Sparse, ind: &[u32], val: &[u32]) -> Counted
     ensures { λ r. ⌜ r ≡ complementSizeOf (full s (now (ind .entry)) (now (val .entry))) ⌝ }
 {
@@ -153,6 +154,7 @@ pub fn complement_size(s: Sparse, ind: &[u32], val: &[u32]) -> Counted
     }
 }
 
+// Whether these are fewer than half of those that are.
 pub fn should_use_complement(s: Sparse, ind: &[u32], val: &[u32]) -> Told
     ensures { λ r. ⌜ r ≡ useComplementOf (full s (now (ind .entry)) (now (val .entry))) ⌝ }
 {

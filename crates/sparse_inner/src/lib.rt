@@ -8,8 +8,8 @@ ghost use lib.Signed.{leZ};
 ghost use mir.Syntax.{w32};
 ghost use mir.Val.{SFits};
 ghost use Rattle.order.specs.Order.{allB};
-ghost use Rattle.offset.specs.Places.{placeOf, cutOf};
-ghost use Rattle.sparse_inner.specs.Set.{Full, full, heldB, Well, between, boundsB, fitsB, stateOf, soundB, roomB, verdictOf, bothOf, placeIn, valueAt, widest};
+ghost use Rattle.offset.specs.Places.{cutOf};
+ghost use Rattle.sparse_inner.specs.Set.{full, heldB, Well, between, boundsB, fitsB, stateOf, soundB, roomB, verdictOf, bothOf, placeIn, valueAt};
 ghost use Rattle.sparse_inner.specs.Change.{dropAt, dropRun, addAt, onlyAt, fromCut, underCut};
 ghost use Rattle.sparse_inner.specs.Scan.{Spans, Greatest, Least, lowWith, highWith};
 use rules::Refusal;
@@ -136,6 +136,7 @@ pub fn fits(ind: &[u32], val: &[u32], n: u32, t: SparseState) -> bool
     bounds_ok(ind, val, n, size, t.min, t.max)
 }
 
+// What `save_state` keeps.
 pub fn state(s: Sparse) -> SparseState
     ensures { λ r. ⌜ r ≡ stateOf s ⌝ }
 {
@@ -147,7 +148,7 @@ pub fn state(s: Sparse) -> SparseState
 }
 
 // Is a set sound, whose universe is narrow and whose cells have room?
-pub fn is_sound(s: Sparse, ind: &[u32], val: &[u32]) -> bool
+fn is_sound(s: Sparse, ind: &[u32], val: &[u32]) -> bool
     requires { ⌜ (s .n ≤ length (now ind)) × (s .n ≤ length (now val)) ⌝ }
     ensures { λ r. ⌜ r ≡ soundB (full s (now (ind .entry)) (now (val .entry))) ⌝ }
 {
@@ -162,7 +163,7 @@ pub fn is_sound(s: Sparse, ind: &[u32], val: &[u32]) -> bool
 }
 
 // Have both orderings room for the universe?
-pub fn has_room(s: Sparse, ind: &[u32], val: &[u32]) -> bool
+fn has_room(s: Sparse, ind: &[u32], val: &[u32]) -> bool
     ensures { λ r. ⌜ r ≡ roomB (full s (now (ind .entry)) (now (val .entry))) ⌝ }
 {
     let n = s.n as usize;
@@ -306,6 +307,7 @@ pub fn drop_at(s: Sparse, ind: &mut [u32], val: &mut [u32], o: u32) -> Sparse
     next
 }
 
+// The least offset once o is added, and the greatest.
 fn low_with(size: u32, min: u32, o: u32) -> u32
     ensures { λ r. ⌜ r ≡ lowWith size min o ⌝ }
 {

@@ -14,6 +14,7 @@ use rules::Value;
 use sparse_inner::Sparse;
 use sparse_inner::Verdict;
 
+// What a call that makes a set answers.
 pub enum Made {
     Set(Sparse),
     Refused(Refusal),

@@ -1,6 +1,7 @@
 // The calls on two sparse sets: intersect_with, diff_with, union_with, is_subset_of, equals. Their universes may differ.
 //
-// The first set is the one that changes. They are refused if either set isn't well formed, and then leave all as it came.
+// The first set is the one that changes. A call is refused if either set isn't well formed, or if the scratch that it needs is smaller than the first
+// set, and then leaves all as it came.
 ghost use mathlib.Core.Path.{_≡_};
 ghost use Prim.Native.Nat.{_≤_};
 ghost use lib.ListN.{length, take};

@@ -2,13 +2,13 @@
 //
 // Every byte is counted before the first is written, so that a text without room leaves the bytes as they came.
 ghost use mathlib.Core.Path.{_≡_};
-ghost use Prim.Native.Nat.{_+_, _*_, _≤_};
+ghost use Prim.Native.Nat.{_+_, _≤_};
 ghost use lib.ListN.{length};
 ghost use mir.Syntax.{w32};
 ghost use mir.Val.{SFits};
 ghost use Rattle.decimal.specs.Put.{putOf};
 ghost use Rattle.sparse_inner.specs.Set.{full, Well, valueAt};
-ghost use Rattle.sparse_text.specs.Text.{before, closing, textOf, written, writeTextOf};
+ghost use Rattle.sparse_text.specs.Text.{before, textOf, written, writeTextOf};
 use rules::Refusal;
 use sparse::Counted;
 use sparse_inner::Sparse;
@@ -36,6 +36,7 @@ fn before_size(size: u32, k: u32) -> usize
     1
 }
 
+// Puts them at `at`, and answers the place after them.
 fn put_before(size: u32, k: u32, out: &mut [u8], at: usize) -> usize
     requires { ⌜ at + length (before size k) ≤ length (now out) ⌝ }
     ensures { λ r. ⌜ record { next = r; cells = now (out .exit) } ≡ putOf (before size k) (now (out .entry)) at ⌝ }
@@ -71,6 +72,7 @@ fn text_size(s: Sparse, ind: &[u32], val: &[u32]) -> usize
     sum + 1
 }
 
+// Puts the text at the start.
 fn put_text(s: Sparse, ind: &[u32], val: &[u32], out: &mut [u8])
     requires { ⌜ Well s (now ind) (now val) ⌝ }
     requires { ⌜ length (textOf (full s (now ind) (now val))) ≤ length (now out) ⌝ }
@@ -94,6 +96,7 @@ fn put_text(s: Sparse, ind: &[u32], val: &[u32], out: &mut [u8])
     out[at] = b']';
 }
 
+// Puts the text at the start, and answers how long it is. NoRoom: it is longer than `out`.
 pub fn write_text(s: Sparse, ind: &[u32], val: &[u32], out: &mut [u8]) -> Counted
     ensures { λ r. ⌜ written r (now (out .exit)) ≡ writeTextOf (full s (now (ind .entry)) (now (val .entry))) (now (out .entry)) ⌝ }
 {

@@ -3,8 +3,8 @@
 // iter, next: the held values, in their order. complement_iter, complement_next: those of the universe that are not held, in theirs.
 // to_vec: the held values, into lent cells.
 //
-// A cursor is a place in the set that is lent with it: it goes in by value and is handed back beside what it yielded. None is refused; one that
-// has ended yields no more.
+// A cursor is a place in the set that is lent with it: it goes in by value and is handed back beside what it yielded. No cursor is refused, and
+// one that has ended yields no more. A set that isn't well formed is refused by number, before anything else; a refused call writes no cell.
 ghost use mathlib.Core.Path.{_≡_};
 ghost use Prim.Native.Nat.{_≤_};
 ghost use lib.ListN.{length};
@@ -21,7 +21,7 @@ pub struct HeldCursor {
     pub at: u32,
 }
 
-// The cell of the next value that is not held: the first of them, where a held one stands there.
+// The cell of the next value that is not held; where a held one stands there, the first that isn't.
 pub struct ComplementCursor {
     pub at: u32,
 }
@@ -33,11 +33,13 @@ pub enum Yielded {
     Refused(Refusal),
 }
 
+// A cursor handed back, and what it yielded.
 pub struct Stepped {
     pub cursor: HeldCursor,
     pub answer: Yielded,
 }
 
+// The same of the values that are not held.
 pub struct ComplementStepped {
     pub cursor: ComplementCursor,
     pub answer: Yielded,

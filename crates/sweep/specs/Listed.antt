@@ -1,16 +1,16 @@
 -- The listed domains, as they are gathered: of each place the smallest value of its universe, and its mask.
-use mathlib.Core.Path.{_≡_}
-use mathlib.Core.Bool.{not, _&&_}
+use mathlib.Core.Path.{_≡_, refl}
+use mathlib.Core.Bool.{true, false, not, _&&_}
 use mathlib.Core.List.{List, [], _∷_}
 use Prim.Native.Nat.{ℕ, zero, suc, _<_}
 use lib.Count.{ones}
 use lib.Dec.{eqb}
 use lib.ListN.{getD}
-use lib.IntN.{ℤ, pos, _+ℤ_}
+use lib.IntN.{ℤ, pos, negsuc, _+ℤ_}
 use mir.Syntax.{w32}
 use mir.Val.{SFits}
 use Rattle.mask.specs.Val.{val}
-use Rattle.mask.specs.Sets.{In}
+use Rattle.mask.specs.Sets.{In, membersFrom, membersIn}
 use Rattle.rules.specs.Sets.{Chutes, some, strike}
 use Rattle.rules.specs.Pass.{Places, Swept, lost}
 use Rattle.domain.specs.Set.{valuesOf}
@@ -37,6 +37,15 @@ Level lo mins n = (p : ℕ) → p < n → getD mins p (pos 0) ≡ lo
 -- which of the first n places are assigned
 unfoldable pub assigned : List ℕ → ℕ → Places
 assigned ws n = tabulate (λ p. eqb (ones (val (maskAt ws p))) 1) n
+
+-- by example: 5 and 7, over a universe from 5 on, and 0, over one from -1 on
+two-listed : listed (pos 5 ∷ negsuc 0 ∷ []) (5 ∷ 0 ∷ 2 ∷ 0 ∷ []) 2 ≡ (pos 5 ∷ pos 7 ∷ []) ∷ (pos 0 ∷ []) ∷ []
+unfolding listed valuesOf maskAt val membersFrom membersIn
+two-listed = refl
+
+second-assigned : assigned (5 ∷ 0 ∷ 2 ∷ 0 ∷ []) 2 ≡ false ∷ true ∷ []
+unfolding assigned maskAt val ones
+second-assigned = refl
 
 -- what was swept: the domains, and what is told of it
 abbrev pub swept : Outcome → List Chutes → Swept

@@ -35,7 +35,7 @@ bringing ws m (suc n) rows = let now = bringing ws m n rows in withDomain now n 
 abbrev pub marked : Board → Board
 marked b = record { rows = b .rows; count = b .count; saved = saving (b .rows) (b .marks) (b .count) (b .saved); marks = b .marks + 1; changed = b .changed }
 
--- the newest mark's domains, and without it
+-- the newest mark's domains brought back, and without that mark
 abbrev pub restored : Board → Board
 restored b = record { rows = bringing (b .saved) (b .marks - 1) (b .count) (b .rows); count = b .count; saved = b .saved; marks = b .marks - 1; changed = b .changed }
 

@@ -12,7 +12,7 @@ use domain::Outcome;
 use rules::Refusal;
 use rules::Variable;
 
-// How many rows a call goes through: at is what `look` answered, and fine whether the marks allow the call.
+// How many rows a call goes through: `at` is what `look` answered, and `fine` whether the marks allow the call.
 fn turns(at: usize, fine: bool, count: usize) -> usize
     ensures { λ r. ⌜ r ≡ turnsOf at fine count ⌝ }
 {
@@ -46,6 +46,7 @@ fn fewer(at: usize, marks: usize) -> usize
     if marks == 0 { 0 } else { marks - 1 }
 }
 
+// The answer: `why` is the refusal where the marks don't allow the call.
 fn settle(at: usize, fine: bool, why: Refusal) -> Outcome
     ensures { λ r. ⌜ r ≡ settleOf at fine why ⌝ }
 {

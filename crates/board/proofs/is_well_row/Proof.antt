@@ -1,7 +1,6 @@
 -- `board::is_well_row` meets its contract: all masks of the row are below the universe's limit exactly if each is. Assumes nothing.
-use mathlib.Core.Path.{_≡_, sym, ap, _∙_, subst}
-use mathlib.Core.Bool.{_&&_}
-use Prim.Native.Nat.{ℕ, _^_}
+use mathlib.Core.Path.{ap, _∙_}
+use Prim.Native.Nat.{_^_}
 use lib.Dec.{ltb}
 use Rattle.mask.specs.Val.{val}
 use Rattle.mask.specs.declared.Mask.{Mask}

@@ -1,9 +1,9 @@
 -- `board_list::ids_of` meets its contract: the ids are copied one by one. Assumes nothing.
 use mathlib.Core.Path.{_≡_, refl}
-use Prim.Native.Nat.{ℕ, _-_, _≤_, _<_}
+use Prim.Native.Nat.{_-_, _≤_}
 use native.Mathlib.Nat.{not-suc-le-zero}
 use native.Mathlib.Omega.{arith}
-use lib.ListN.{length, getD, length-set}
+use lib.ListN.{length, length-set}
 use Rattle.board.specs.Rows.{idAt}
 use Rattle.board_list.specs.Places.{Begins}
 use Rattle.board.proofs.Seats.{copied}

@@ -1,3 +1,4 @@
+-- `domain::inner::width` meets its contract: it is the span of the bounds, which are read back whole. Assumes nothing.
 use borrow.Author.Needs.{needs}
 use mathlib.Core.Path.{_∙_}
 use mir.Syntax.{w32}
@@ -7,11 +8,9 @@ use Rattle.domain.proofs.Signed.{read}
 use Rattle.domain.proofs.inner.width.Statement.{statement}
 use Rattle.domain.proofs.inner.width.Tie as tie
 
--- src/inner.rt:21:5
 span-requires : tie.Need-span-requires
 span-requires c κs = search needs
 
--- src/inner.rt:18:1
 returns : tie.Need-returns
 returns c =
     let d = c .before .before .before .args .d in
