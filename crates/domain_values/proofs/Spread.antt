@@ -1,24 +1,23 @@
 -- The smallest and the largest of some values, and the mask of the values over the universe from the one to the other. Assumes nothing.
 use mathlib.Core.Path.{_≡_, refl, sym, ap, _∙_}
-use mathlib.Core.Bool.{Bool, true, false, not, cond, _&&_}
+use mathlib.Core.Bool.{Bool, true, false, cond, _&&_}
 use mathlib.Core.List.{[], _∷_}
-use mathlib.Core.Logic.{_⊎_, inl, inr, ⊎-elim}
 use Prim.Native.Nat.{ℕ, zero, suc, _+_, _^_, _≤_, _<_}
 use native.Mathlib.Numerals.{add-one}
 use native.Mathlib.Omega.{arith}
 use lib.Bits.{bitOr, or-zero-r}
-use lib.Dec.{T, leb→le, le→leb}
-use lib.IntN.{ℤ, pos, negsuc, _+ℤ_, _-ℤ_}
+use lib.Dec.{T}
+use lib.IntN.{ℤ, pos, _+ℤ_, _-ℤ_}
 use lib.ListN.{length, getD, drop, drop-of-length-le}
 use lib.Seq.{drop-cons}
-use lib.Signed.{ltZ, leZ}
+use lib.Signed.{leZ}
 use borrow.Author.Tests.{ltb-true}
 use Rattle.mask.specs.Bit.{bit-or, ext}
 use Rattle.mask.specs.Sets.{In}
 use Rattle.offset.specs.Places.{natural, placeOf, spanOf}
-use Rattle.offset.specs.Universe.{le-not-lt, le-span, place-range, place-value, diff-moved}
+use Rattle.offset.specs.Universe.{le-span, place-range, place-value, diff-moved}
 use Rattle.rules.specs.Sets.{Chutes, has, keep}
-use Rattle.rules.proofs.SetLaws.{has-cons, has-head, has-tail}
+use Rattle.rules.proofs.SetLaws.{has-head, has-tail}
 use Rattle.rules.proofs.Tests.{and-right, and-both, is-true, true-is}
 use Rattle.rules.specs.declared.Refusal.the-variants.{TooWide}
 use Rattle.domain.specs.Set.{bitsOf, range}
@@ -28,66 +27,9 @@ use Rattle.domain.specs.declared.Made.{Made}
 use Rattle.domain.specs.declared.Made.the-variants as made
 use Rattle.domain.proofs.Laws.{From, from-offset, bits-in, in-bits, range-bits}
 use Rattle.domain_values.specs.Calls.{within, among, nothing, spread, fromValuesOf, tryFromValuesOf}
-use Rattle.ends.specs.Ends.{first, smallestOf, largestOf}
+use Rattle.ends.specs.Ends.{smallestOf, largestOf}
+use Rattle.ends.proofs.Firsts.{smallest-least, largest-most}
 use Rattle.domain_values.proofs.Every.{every-at, every-of}
-
--- an order, and the test by which one value stands before another
-record Order (before upto : ℤ → ℤ → Bool) : Type 0 where
-  itself : (a : ℤ) → T (upto a a)
-  trans : (a b c : ℤ) → T (upto a b) → T (upto b c) → T (upto a c)
-  yes : (a b : ℤ) → before a b ≡ true → T (upto a b)
-  no : (a b : ℤ) → before a b ≡ false → T (upto b a)
-
--- the first stands before all others, or is one of them
-module _ {before upto : ℤ → ℤ → Bool} (o : Order before upto) where
-  first-upto : (x : ℤ) (s : Chutes) (y : ℤ) → T (has y (x ∷ s)) → T (upto (first before x s) y)
-  first-upto x [] y h = ⊎-elim (λ e. rw e (o .itself x)) (λ m. absurd m) (has-cons y x [] h)
-  first-upto x (z ∷ s) y h = go (before z x) refl (first-upto (cond (before z x) z x) s) (has-cons y x (z ∷ s) h)
-    where
-      go : (b : Bool) → before z x ≡ b → ((u : ℤ) → T (has u (cond b z x ∷ s)) → T (upto (first before (cond b z x) s) u)) → (y ≡ x) ⊎ T (has y (z ∷ s)) → T (upto (first before (cond b z x) s) y)
-      go true t f (inl e) = rw e (o .trans (first before z s) z x (f z (has-head z s)) (o .yes z x t))
-      go true t f (inr m) = f y m
-      go false t f (inl e) = rw e (f x (has-head x s))
-      go false t f (inr m) = ⊎-elim (λ e. rw e (o .trans (first before x s) x z (f x (has-head x s)) (o .no z x t))) (λ n. f y (has-tail y x s n)) (has-cons y z s m)
-
--- and it is one of them
-pub first-in : (before : ℤ → ℤ → Bool) (x : ℤ) (s : Chutes) → T (has (first before x s) (x ∷ s))
-first-in before x [] = has-head x []
-first-in before x (z ∷ s) = go (before z x) (first-in before (cond (before z x) z x) s)
-  where
-    go : (b : Bool) → T (has (first before (cond b z x) s) (cond b z x ∷ s)) → T (has (first before (cond b z x) s) (x ∷ z ∷ s))
-    go true h = has-tail (first before z s) x (z ∷ s) h
-    go false h = ⊎-elim (λ e. rw e (has-head x (z ∷ s))) (λ m. has-tail (first before x s) x (z ∷ s) (has-tail (first before x s) z s m)) (has-cons (first before x s) x s h)
-
--- ---- the order of ℤ
-
-le-same : (a : ℤ) → T (leZ a a)
-le-same (pos a) = le→leb a a (omega arith)
-le-same (negsuc a) = le→leb a a (omega arith)
-
-pub le-trans : (a b c : ℤ) → T (leZ a b) → T (leZ b c) → T (leZ a c)
-le-trans (pos a) (pos b) (pos c) p q = le→leb a c (omega (arith, leb→le a b p, leb→le b c q))
-le-trans (pos a) (pos b) (negsuc c) p q = absurd q
-le-trans (pos a) (negsuc b) c p q = absurd p
-le-trans (negsuc a) (pos b) (pos c) p q = tt
-le-trans (negsuc a) (pos b) (negsuc c) p q = absurd q
-le-trans (negsuc a) (negsuc b) (pos c) p q = tt
-le-trans (negsuc a) (negsuc b) (negsuc c) p q = le→leb c a (omega (arith, leb→le b a p, leb→le c b q))
-
-lt-le : (a b : ℤ) → ltZ a b ≡ true → T (leZ a b)
-lt-le (pos a) (pos b) t = le→leb a b (omega (arith, ltb-true a b t))
-lt-le (pos a) (negsuc b) t = true-is t
-lt-le (negsuc a) (pos b) t = tt
-lt-le (negsuc a) (negsuc b) t = le→leb b a (omega (arith, ltb-true b a t))
-
-not-lt-le : (a b : ℤ) → ltZ a b ≡ false → T (leZ b a)
-not-lt-le a b t = true-is (le-not-lt b a ∙ ap not t)
-
-ascending : Order ltZ leZ
-ascending = record { itself = le-same; trans = le-trans; yes = lt-le; no = not-lt-le }
-
-descending : Order (λ y x. ltZ x y) (λ y x. leZ x y)
-descending = record { itself = le-same; trans = λ a b c p q. le-trans c b a q p; yes = λ a b t. lt-le b a t; no = λ a b t. not-lt-le b a t }
 
 -- each value stands from the smallest to the largest
 pub spread-within : (vs : Chutes) → within (smallestOf vs) (largestOf vs) vs ≡ true
@@ -96,7 +38,7 @@ spread-within (x ∷ s) =
     let lo = smallestOf (x ∷ s) in
     let hi = largestOf (x ∷ s) in
     is-true (within lo hi (x ∷ s))
-    (every-of (λ y. leZ lo y && leZ y hi) (x ∷ s) (λ y h. and-both (leZ lo y) (leZ y hi) (first-upto ascending x s y h) (first-upto descending x s y h)))
+    (every-of (λ y. leZ lo y && leZ y hi) (x ∷ s) (λ y h. and-both (leZ lo y) (leZ y hi) (smallest-least x s y h) (largest-most x s y h)))
 
 -- ---- the values' offsets
 

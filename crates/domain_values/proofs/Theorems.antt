@@ -45,7 +45,9 @@ use Rattle.domain_values.proofs.Walk.{bits-values}
 use Rattle.domain.proofs.Ends.{values-first, none-values}
 use Rattle.domain.proofs.Theorems.{values-ascend}
 use Rattle.rules.proofs.InOrder.{ascending-unique, ascending-is, has-ascending}
-use Rattle.domain_values.proofs.Spread.{le-trans, first-in, spread-within, between, from-within, bits-inside, bits-among}
+use Rattle.rules.proofs.InOrder.{most-trans}
+use Rattle.ends.proofs.Firsts.{first-in}
+use Rattle.domain_values.proofs.Spread.{spread-within, between, from-within, bits-inside, bits-among}
 
 -- ---- a walk
 
@@ -162,7 +164,7 @@ module _ (d : BitDomain) (w : well d ≡ true) (f : Fit (d .mask)) (g : SFits w3
       (every-of (λ x. leZ x (pos 2147483647)) (setOf d)
       (λ x h.
       let r = values-offset (d .min) (d .mask) x h in
-      le-trans x (d .max) (pos 2147483647) (rw (r .1) (true-is (le-span (d .min) (d .max) (r .0) ∙ lt-ltb (r .0) (width d) (well-in d w (r .0) (r .2))))) (top (d .max) g)))
+      most-trans x (d .max) (pos 2147483647) (rw (r .1) (true-is (le-span (d .min) (d .max) (r .0) ∙ lt-ltb (r .0) (width d) (well-in d w (r .0) (r .2))))) (top (d .max) g)))
 
   pub iter-begins : iterOf d ≡ begun.Cursor (cursorOf d)
   unfolding iterOf
@@ -262,7 +264,7 @@ from-well (x ∷ s) = go (narrow lo hi) refl
     some-span : 0 < spanOf lo hi
     some-span =
         let b = between lo hi (x ∷ s) w x (has-head x s) in
-        span-le lo hi .0 (is-true (leZ lo hi) (le-trans lo x hi (and-left (leZ lo x) (leZ x hi) b) (and-right (leZ lo x) (leZ x hi) b)))
+        span-le lo hi .0 (is-true (leZ lo hi) (most-trans lo x hi (and-left (leZ lo x) (leZ x hi) b) (and-right (leZ lo x) (leZ x hi) b)))
 
     go : (b : Bool) → narrow lo hi ≡ b → well (cond b (among lo hi (x ∷ s)) invalid) ≡ true
     go true t = among-well lo hi (x ∷ s) w t some-span

@@ -54,34 +54,22 @@ use Rattle.board_spread.specs.Spread.{pairOf, prunedBy, prunedOf, handed, refus
 use Rattle.trial.specs.Marks.{markOf, restoreOf, keepOf, marked, restored, released}
 use Rattle.batch.specs.declared.Batched.{Batched}
 use Rattle.batch.specs.Batch.{closedBy, closedAll, isYes, yeses, batchOf}
-use Rattle.state.specs.Layout.{size, readOf}
+use Rattle.state.specs.Layout.{readOf}
 use Rattle.state.specs.Typed.{Typed}
-use Rattle.reply.specs.Told.{coded, Kind, nothing, yesNo, pair, number, toldBy, Of, done-of, said-of, pair-of, count-of, chute-of, denied-of}
+use Rattle.reply.specs.Told.{Kind, nothing, yesNo, pair, number, toldBy, Of, done-of, said-of, pair-of, count-of, chute-of, denied-of}
 use Rattle.reply.specs.Told as kinds
-use Rattle.reply.specs.Through.{good, lentTo, Reply, left, written, through, answered}
-use Rattle.reply.proofs.ToldLaws.{told-back}
+use Rattle.reply.specs.Through.{boards, lentTo, Reply, through, answered}
+use Rattle.reply.proofs.LentLaws as lent
 use Rattle.pirozhkan.specs.Calls.{named, chute, ranging, listing, closing, resetting, spreading, marking, restoring, keeping, whetherReady, sizing, whetherAssigned, assignedTo, whetherInconsistent, whetherChanged}
 use Rattle.pirozhkan.specs.Batches.{batching}
 
 -- ---- what the code of a call tells, if its answers have room
 
 pub answered-told : (k : Kind) (f : Board → rules.Answer) → ((b : Board) → Of k (f b)) → (ws : List ℕ) → toldBy k (answered f ws) ≡ lentTo ws (λ a. a) f
-unfolding answered
-answered-told k f room ws = go (ltb (length ws) size) (good ws)
-  where
-    go : (few fine : Bool) → toldBy k (cond few (coded (rules.denied NoRoom)) (cond fine (coded (f (readOf ws))) (coded (rules.denied Broken)))) ≡ cond few (rules.denied NoRoom) (cond fine (f (readOf ws)) (rules.denied Broken))
-    go true fine = told-back k (rules.denied NoRoom) (denied-of (omega arith))
-    go false true = told-back k (f (readOf ws)) (room (readOf ws))
-    go false false = told-back k (rules.denied Broken) (denied-of (omega arith))
+answered-told k f room ws = lent.answered-told boards k f ws (room (readOf ws))
 
 pub through-told : (k : Kind) (f : Board → Reply) → ((b : Board) → Of k (f b .answer)) → (ws : List ℕ) → toldBy k (through f ws .code) ≡ lentTo ws (λ a. a) (λ b. f b .answer)
-unfolding through
-through-told k f room ws = go (ltb (length ws) size) (good ws)
-  where
-    go : (few fine : Bool) → toldBy k (cond few (left (coded (rules.denied NoRoom)) ws) (cond fine (written ws (f (readOf ws))) (left (coded (rules.denied Broken)) ws)) .code) ≡ cond few (rules.denied NoRoom) (cond fine (f (readOf ws) .answer) (rules.denied Broken))
-    go true fine = told-back k (rules.denied NoRoom) (denied-of (omega arith))
-    go false true = told-back k (f (readOf ws) .answer) (room (readOf ws))
-    go false false = told-back k (rules.denied Broken) (denied-of (omega arith))
+through-told k f room ws = lent.through-told boards k f ws (room (readOf ws))
 
 -- ---- the parts
 

@@ -18,7 +18,7 @@ use Rattle.reply.specs.Told.{coded}
 use Rattle.reply.specs.Through.{Reply, Left, left, through, answered}
 
 abbrev pub batched : Batched → Reply
-batched r = record { board = r .board; answer = countOf (r .answer) }
+batched r = record { state = r .board; answer = countOf (r .answer) }
 
 abbrev pub batching : List Closing → Board → Reply
 batching cs b = batched (batchOf b cs)

@@ -35,12 +35,11 @@ use Rattle.domain_text.specs.Text as text
 use Rattle.domain_text.proofs.Room.{text-few}
 use Rattle.board.specs.Obeys.{toldOf, outcomeOf}
 use Rattle.board_ask.specs.Answers.{countOf, chuteOf}
-use Rattle.reply.specs.Told.{coded, Kind, nothing, yesNo, number, toldBy, Of, done-of, said-of, count-of, chute-of, denied-of}
+use Rattle.reply.specs.Told.{Kind, nothing, yesNo, number, toldBy, Of, done-of, said-of, count-of, chute-of, denied-of}
 use Rattle.reply.specs.Told as kinds
-use Rattle.reply.specs.Through.{left}
-use Rattle.reply.proofs.ToldLaws.{told-back}
-use Rattle.pirozhkan_bit.specs.Layout.{size, readOf}
-use Rattle.pirozhkan_bit.specs.Lent.{lentTo, Reply, written, through, answered}
+use Rattle.reply.proofs.LentLaws as lent
+use Rattle.pirozhkan_bit.specs.Layout.{readOf}
+use Rattle.pirozhkan_bit.specs.Lent.{words, lentTo, Reply, through, answered}
 use Rattle.pirozhkan_bit.specs.Calls.{chute, inserting, removing, emptying, closing, whetherHeld, sizing, fixedAt, smallest, largest}
 
 no : {k : Kind} (r : Refusal) → placeOf r < 2 ^ 56 → Of k (rules.denied r)
@@ -52,20 +51,10 @@ broken = no Broken (omega arith)
 -- ---- what the code of a call tells, if its answer has room
 
 pub answered-told : (k : Kind) (f : BitDomain → rules.Answer) (ws : List ℕ) → Of k (f (readOf ws)) → toldBy k (answered f ws) ≡ lentTo ws (λ a. a) f
-unfolding answered
-answered-told k f ws room = go (ltb (length ws) size)
-  where
-    go : (few : Bool) → toldBy k (cond few (coded (rules.denied NoRoom)) (coded (f (readOf ws)))) ≡ cond few (rules.denied NoRoom) (f (readOf ws))
-    go true = told-back k (rules.denied NoRoom) (no NoRoom (omega arith))
-    go false = told-back k (f (readOf ws)) room
+answered-told = lent.answered-told words
 
 pub through-told : (k : Kind) (f : BitDomain → Reply) (ws : List ℕ) → Of k (f (readOf ws) .answer) → toldBy k (through f ws .code) ≡ lentTo ws (λ a. a) (λ d. f d .answer)
-unfolding through
-through-told k f ws room = go (ltb (length ws) size)
-  where
-    go : (few : Bool) → toldBy k (cond few (left (coded (rules.denied NoRoom)) ws) (written ws (f (readOf ws))) .code) ≡ cond few (rules.denied NoRoom) (f (readOf ws) .answer)
-    go true = told-back k (rules.denied NoRoom) (no NoRoom (omega arith))
-    go false = told-back k (f (readOf ws) .answer) room
+through-told = lent.through-told words
 
 -- ---- yes or no, and done
 

@@ -1,4 +1,3 @@
 -- Laws that belong to no one function.
-pub mod LentLaws
 pub mod Theorems
 pub mod Codes

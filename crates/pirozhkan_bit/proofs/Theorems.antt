@@ -1,6 +1,6 @@
 -- What is written is read back as the same domain, every three words are the writing of exactly one, and one that isn't well formed comes back
 -- cell for cell. Assumes nothing.
-use mathlib.Core.Path.{_≡_, sym, ap, _∙_}
+use mathlib.Core.Path.{_≡_, refl, sym, ap, _∙_}
 use mathlib.Core.Bool.{false}
 use mathlib.Core.List.{List, _∷_, _++_}
 use Prim.Native.Nat.{ℕ, _≤_}
@@ -20,9 +20,9 @@ use Rattle.state.proofs.Halves.{low-back, high-back, word-back}
 use Rattle.reply.specs.Told.{coded}
 use Rattle.reply.specs.Through.{left}
 use Rattle.pirozhkan_bit.specs.Layout.{size, writtenOf, readOf}
-use Rattle.pirozhkan_bit.specs.Lent.{Reply, written, through}
+use Rattle.pirozhkan_bit.specs.Lent.{words, Reply, written, through}
 use Rattle.pirozhkan_bit.specs.Calls.{inserting, removing, emptying, closing}
-use Rattle.pirozhkan_bit.proofs.LentLaws.{through-done}
+use Rattle.reply.proofs.LentLaws.{through-done}
 
 -- ---- written, and read back
 
@@ -50,12 +50,12 @@ only-one ws d f g e = sym (read-back d (drop size ws) f g) ∙ ap readOf e
 
 -- what every by-value call does with it
 abbrev pub Guarded : (BitDomain → Reply) → Type 0
-Guarded f = (d : BitDomain) → well d ≡ false → f d ≡ record { domain = d; answer = rules.denied Broken }
+Guarded f = (d : BitDomain) → well d ≡ false → f d ≡ record { state = d; answer = rules.denied Broken }
 
 pub broken-back : (f : BitDomain → Reply) → Guarded f → (ws : List ℕ) → size ≤ length ws → Words ws → well (readOf ws) ≡ false → through f ws ≡ left 1 ws
 unfolding coded
 broken-back f g ws h fit bad =
-    sym (through-done f ws h (f (readOf ws)) (λ _. f (readOf ws)))
+    sym (through-done words f ws h refl (f (readOf ws)) (λ _. f (readOf ws)))
     ∙ ap (written ws) (g (readOf ws) bad)
     ∙ ap (left 1) (written-back ws h fit)
 

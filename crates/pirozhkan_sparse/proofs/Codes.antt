@@ -1,9 +1,9 @@
 -- Every answer of an exported call has room in its code, so that `toldBy` reads it back: no refusal names a place, a set holds at most 4,096
 -- values, its text has at most 12 bytes for each value of the universe and 3 more, and a value is an i32. Assumes nothing.
-use mathlib.Core.Path.{_≡_, refl}
+use mathlib.Core.Path.{_≡_, refl, subst}
 use mathlib.Core.Bool.{Bool, true, false, cond, _&&_}
 use mathlib.Core.List.{List, [], _∷_, _++_}
-use Prim.Native.Nat.{ℕ, zero, suc, _*_, _≤_, _<_}
+use Prim.Native.Nat.{ℕ, zero, suc, _*_, _^_, _≤_, _<_}
 use native.Mathlib.Nat.{le-refl}
 use native.Mathlib.Omega.{arith}
 use lib.Dec.{eqb, leb, ltb}
@@ -41,12 +41,10 @@ use Rattle.sparse_pairs.specs.Calls as pairs
 use Rattle.sparse_values.specs.Calls as values
 use Rattle.sparse_text.specs.Text as text
 use Rattle.sparse_text.proofs.Texts.{before-few, value-few, text-size}
-use Rattle.reply.specs.Told.{coded, Kind, yesNo, number, toldBy, Of, done-of, said-of, count-of, chute-of, denied-of}
+use Rattle.reply.specs.Told.{Kind, yesNo, number, toldBy, Of, done-of, said-of, count-of, chute-of, denied-of}
 use Rattle.reply.specs.Told as kinds
-use Rattle.reply.specs.Through.{left}
-use Rattle.reply.proofs.ToldLaws.{told-back}
-use Rattle.pirozhkan_sparse.specs.Layout.{size}
-use Rattle.pirozhkan_sparse.specs.Lent.{toldOf, countOf, valueOf, outcomeOf, Cells, fullIn, lentTo, Reply, written, through, answered, pared}
+use Rattle.reply.proofs.LentLaws as lent
+use Rattle.pirozhkan_sparse.specs.Lent.{toldOf, countOf, valueOf, outcomeOf, Cells, fullIn, sets, lentTo, Reply, through, answered, pared}
 use Rattle.pirozhkan_sparse.specs.Calls.{removing, emptying, leavingOnly, droppingBelow, droppingAbove, restoring, uniting, whetherHeld, sizing, smallest, largest}
 
 no : {k : Kind} (r : Refusal) → placeOf r ≡ 0 → Of k (rules.denied r)
@@ -55,20 +53,10 @@ no r e = denied-of {r = r} (omega arith)
 -- ---- what the code of a call tells, if its answer has room
 
 pub answered-told : (k : Kind) (f : Full → rules.Answer) (c : Cells) → Of k (f (fullIn c)) → toldBy k (answered f c) ≡ lentTo c (λ a. a) f
-unfolding answered
-answered-told k f c room = go (ltb (length (c .state)) size)
-  where
-    go : (few : Bool) → toldBy k (cond few (coded (rules.denied NoRoom)) (coded (f (fullIn c)))) ≡ cond few (rules.denied NoRoom) (f (fullIn c))
-    go true = told-back k (rules.denied NoRoom) (no NoRoom refl)
-    go false = told-back k (f (fullIn c)) room
+answered-told = lent.answered-told sets
 
 pub through-told : (k : Kind) (f : Full → Reply) (c : Cells) → Of k (f (fullIn c) .answer) → toldBy k (through f c .code) ≡ lentTo c (λ a. a) (λ g. f g .answer)
-unfolding through
-through-told k f c room = go (ltb (length (c .state)) size)
-  where
-    go : (few : Bool) → toldBy k (cond few (left (coded (rules.denied NoRoom)) c) (written c (f (fullIn c))) .code) ≡ cond few (rules.denied NoRoom) (f (fullIn c) .answer)
-    go true = told-back k (rules.denied NoRoom) (no NoRoom refl)
-    go false = told-back k (f (fullIn c) .answer) room
+through-told = lent.through-told sets
 
 -- ---- a verdict names no place
 
@@ -92,25 +80,23 @@ both-near f g = verdict-near (narrowB f && narrowB g) (roomB f && roomB g) (soun
 
 -- ---- yes or no, and done
 
-telling : (v : Verdict) → verdictPlace v ≡ 0 → (y : Bool) → Of yesNo (toldOf (unless v told.Refused (told.Is y)))
-telling Fine e y = said-of y
-telling (Refused r) e y = no r e
+-- a call that the verdict refuses, or lets answer
+judged : {A : Type 0} {k : Kind} (told : A → rules.Answer) (refusing : Refusal → A) → ((r : Refusal) → rules.denied r ≡ told (refusing r)) → (v : Verdict) → verdictPlace v ≡ 0 → (a : A) → (v ≡ Fine → Of k (told a)) → Of k (told (unless v refusing a))
+judged told refusing same Fine e a room = room refl
+judged {k = k} told refusing same (Refused r) e a room = subst (λ (x : rules.Answer). Of k x) (same r) (no r e)
 
 settling : (v : Verdict) → verdictPlace v ≡ 0 → (f g : Full) → Of kinds.nothing (outcomeOf (unless v (λ why. after (outcome.Refused why) f) (after outcome.Done g) .answer))
-settling Fine e f g = done-of
-settling (Refused r) e f g = no r e
+settling v e f g = judged (λ x. outcomeOf (x .answer)) (λ why. after (outcome.Refused why) f) (λ r. refl) v e (after outcome.Done g) (λ _. done-of)
 
 pub held-of : (v : ℤ) (f : Full) → Of yesNo (whetherHeld v f)
 unfolding containsOf
-held-of v f = telling (verdictOf f) (one-near f) (isHeld f v)
+held-of v f = judged toldOf told.Refused (λ r. refl) (verdictOf f) (one-near f) (told.Is (isHeld f v)) (λ _. said-of (isHeld f v))
 
 pub removing-of : (v : ℤ) (f : Full) → Of yesNo (removing v f .answer)
 unfolding removeOf
-removing-of v f = go (verdictOf f) (one-near f)
-  where
-    go : (w : Verdict) → verdictPlace w ≡ 0 → Of yesNo (toldOf (unless w (λ why. after (told.Refused why) f) (after (told.Is (isHeld f v)) (dropAt f (placeIn (f .set) v))) .answer))
-    go Fine e = said-of (isHeld f v)
-    go (Refused r) e = no r e
+removing-of v f =
+    judged (λ x. toldOf (x .answer)) (λ why. after (told.Refused why) f) (λ r. refl) (verdictOf f) (one-near f)
+    (after (told.Is (isHeld f v)) (dropAt f (placeIn (f .set) v))) (λ _. said-of (isHeld f v))
 
 pub emptying-of : (f : Full) → Of kinds.nothing (emptying f .answer)
 unfolding removeAllOf
@@ -155,13 +141,12 @@ parting-of f g want scratch = go (bothOf f g) (both-near f g) (ltb (length scrat
 
 -- ---- how many
 
+few-held : (f : Full) → verdictOf f ≡ Fine → f .set .size < 2 ^ 56
+few-held f q = let w = well-of f q in omega (arith, w .within, w .narrow)
+
 pub sizing-of : (f : Full) → Of number (sizing f)
 unfolding sizeOf
-sizing-of f = go (verdictOf f) refl (one-near f)
-  where
-    go : (w : Verdict) → verdictOf f ≡ w → verdictPlace w ≡ 0 → Of number (countOf (unless w counted.Refused (counted.Count (f .set .size))))
-    go Fine q e = let w = well-of f q in count-of {n = f .set .size} (omega (arith, w .within, w .narrow))
-    go (Refused r) q e = no r e
+sizing-of f = judged countOf counted.Refused (λ r. refl) (verdictOf f) (one-near f) (counted.Count (f .set .size)) (λ q. count-of (few-held f q))
 
 pub values-of : (out : List ℤ) (f : Full) → Of number (countOf (values.toVecOf f out .answer))
 unfolding values.toVecOf
@@ -169,7 +154,7 @@ values-of out f = go (verdictOf f) refl (one-near f) (ltb (length out) (f .set .
   where
     go : (w : Verdict) → verdictOf f ≡ w → verdictPlace w ≡ 0 → (t : Bool) → Of number (countOf (unless w (λ why. values.written (counted.Refused why) out) (cond t (values.written (counted.Refused NoRoom) out) (values.written (counted.Count (f .set .size)) (over (setOf f) out))) .answer))
     go Fine q e true = no NoRoom refl
-    go Fine q e false = let w = well-of f q in count-of {n = f .set .size} (omega (arith, w .within, w .narrow))
+    go Fine q e false = count-of (few-held f q)
     go (Refused r) q e t = no r e
 
 -- ---- values: i32 numbers, since the first of the universe is one
@@ -186,21 +171,17 @@ module _ (f : Full) (o : SFits w32 (f .set .off)) where
       go zero h = absurd (h refl)
       go (suc n) h = omega arith
 
+  -- a bound of what is held
+  finding : (k : ℕ) → ((q : verdictOf f ≡ Fine) → 0 < f .set .size → k < f .set .n) → Of kinds.chute (valueOf (unless (verdictOf f) found.Refused (foundOf (nothing f) (valueAt (f .set) k))))
+  finding k l = judged valueOf found.Refused (λ r. refl) (verdictOf f) (one-near f) (foundOf (nothing f) (valueAt (f .set) k)) (λ q. bound-of q (nothing f) k (λ z. l q (some-held z)))
+
   pub smallest-of : Of kinds.chute (smallest f)
   unfolding minOf
-  smallest-of = go (verdictOf f) refl (one-near f)
-    where
-      go : (w : Verdict) → verdictOf f ≡ w → verdictPlace w ≡ 0 → Of kinds.chute (valueOf (unless w found.Refused (foundOf (nothing f) (valueAt (f .set) (f .set .min)))))
-      go Fine q e = bound-of q (nothing f) (f .set .min) (λ z. well-of f q .bounds (some-held z) .min-held .in-universe)
-      go (Refused r) q e = no r e
+  smallest-of = finding (f .set .min) (λ q z. well-of f q .bounds z .min-held .in-universe)
 
   pub largest-of : Of kinds.chute (largest f)
   unfolding maxOf
-  largest-of = go (verdictOf f) refl (one-near f)
-    where
-      go : (w : Verdict) → verdictOf f ≡ w → verdictPlace w ≡ 0 → Of kinds.chute (valueOf (unless w found.Refused (foundOf (nothing f) (valueAt (f .set) (f .set .max)))))
-      go Fine q e = bound-of q (nothing f) (f .set .max) (λ z. well-of f q .bounds (some-held z) .max-held .in-universe)
-      go (Refused r) q e = no r e
+  largest-of = finding (f .set .max) (λ q z. well-of f q .bounds z .max-held .in-universe)
 
   -- ---- the text
 

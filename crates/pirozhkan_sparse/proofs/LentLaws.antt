@@ -1,6 +1,5 @@
 -- What an exported call's code has to do to be the by-value call between reading and writing. Assumes nothing.
-use mathlib.Core.Path.{_≡_, sym, ap, _∙_}
-use mathlib.Core.Bool.{cond}
+use mathlib.Core.Path.{_≡_, refl, sym, ap, _∙_}
 use mathlib.Core.List.{List, _++_}
 use Prim.Native.Nat.{ℕ, _≤_, _<_}
 use lib.IntN.{ℤ}
@@ -17,61 +16,30 @@ use Rattle.sparse_make.specs.Calls.{Making}
 use Rattle.sparse_pairs.specs.Calls.{Pared}
 use Rattle.reply.specs.Told.{coded}
 use Rattle.reply.specs.Through.{Left, left}
+use Rattle.reply.proofs.LentLaws.{few, enough, through-done}
 use Rattle.pirozhkan_sparse.specs.Layout.{size, savedOf}
-use Rattle.pirozhkan_sparse.specs.Lent.{Cells, cells, fullIn, put, lentTo, Reply, written, through, madeIn, over, begun, answered, shown, Worn, worn, withScratch, pared, kept, same, parting, joining}
+use Rattle.pirozhkan_sparse.specs.Lent.{Cells, cells, fullIn, put, sets, lentTo, Reply, written, through, madeIn, over, begun, Worn, worn, withScratch, pared, kept, same, parting, joining}
 use Rattle.pirozhkan_sparse.specs.Calls.{keptInto}
-
-few : {A : Type 0} (c : Cells) (r : rules.Answer → A) (f : Full → A) → length (c .state) < size → r (rules.denied NoRoom) ≡ lentTo c r f
-few c r f l = sym (λ t. cond (lt-ltb (length (c .state)) size l t) (r (rules.denied NoRoom)) (f (fullIn c)))
-
-enough : {A : Type 0} (c : Cells) (r : rules.Answer → A) (f : Full → A) → size ≤ length (c .state) → f (fullIn c) ≡ lentTo c r f
-enough c r f l = sym (λ t. cond (le-ltb (length (c .state)) size l t) (r (rules.denied NoRoom)) (f (fullIn c)))
 
 -- the cells, of which the state's were written last
 abbrev wide : List ℕ → List ℕ → Left (List ℕ) → Left Cells
 wide ind val r = left (r .code) (cells (r .cells) ind val)
 
--- ---- calls that change a set
-
-pub through-few : (f : Full → Reply) (c : Cells) → length (c .state) < size → left 14 c ≡ through f c
-unfolding through coded
-through-few f c l = few c (λ a. left (coded a) c) (λ g. written c (f g)) l
-
-pub through-done : (f : Full → Reply) (c : Cells) → size ≤ length (c .state) → (r : Reply) → r ≡ f (fullIn c) → (n : ℕ) (state : List ℕ) → left n state ≡ left (coded (r .answer)) (put (r .left .set) (c .state)) → left n (cells state (r .left .ind) (r .left .val)) ≡ through f c
-unfolding through
-through-done f c l r e n state q =
-    ap (wide (r .left .ind) (r .left .val)) q ∙ ap (written c) e ∙ enough c (λ a. left (coded a) c) (λ g. written c (f g)) l
+pub through-wide : (f : Full → Reply) (c : Cells) → size ≤ length (c .state) → (r : Reply) → r ≡ f (fullIn c) → (n : ℕ) (state : List ℕ) → left n state ≡ left (coded (r .answer)) (put (r .state .set) (c .state)) → left n (cells state (r .state .ind) (r .state .val)) ≡ through f c
+through-wide f c l r e n state q = ap (wide (r .state .ind) (r .state .val)) q ∙ through-done sets f c l refl r e
 
 -- ---- a new set
 
 pub begun-few : (m : List ℕ → List ℕ → Making) (c : Cells) → length (c .state) < size → left 14 c ≡ begun m c
 unfolding begun coded
-begun-few m c l = few c (λ a. left (coded a) c) (λ _. over (m (c .ind) (c .val) .ind) (m (c .ind) (c .val) .val) (madeIn (c .state) (m (c .ind) (c .val) .answer))) l
+begun-few m c l = few sets c (λ a. left (coded a) c) (λ _. over (m (c .ind) (c .val) .ind) (m (c .ind) (c .val) .val) (madeIn (c .state) (m (c .ind) (c .val) .answer))) l
 
 pub begun-done : (m : List ℕ → List ℕ → Making) (c : Cells) → size ≤ length (c .state) → (r : Making) → r ≡ m (c .ind) (c .val) → (n : ℕ) (state : List ℕ) → left n state ≡ madeIn (c .state) (r .answer) → left n (cells state (r .ind) (r .val)) ≡ begun m c
 unfolding begun
 begun-done m c l r e n state q =
     ap (wide (r .ind) (r .val)) q
     ∙ ap (λ (x : Making). over (x .ind) (x .val) (madeIn (c .state) (x .answer))) e
-    ∙ enough c (λ a. left (coded a) c) (λ _. over (m (c .ind) (c .val) .ind) (m (c .ind) (c .val) .val) (madeIn (c .state) (m (c .ind) (c .val) .answer))) l
-
--- ---- questions
-
-pub answered-few : (f : Full → rules.Answer) (c : Cells) → length (c .state) < size → 14 ≡ answered f c
-unfolding answered coded
-answered-few f c l = few c coded (λ g. coded (f g)) l
-
-pub answered-done : (f : Full → rules.Answer) (c : Cells) → size ≤ length (c .state) → (a : rules.Answer) → a ≡ f (fullIn c) → coded a ≡ answered f c
-unfolding answered
-answered-done f c l a e = ap coded e ∙ enough c coded (λ g. coded (f g)) l
-
-pub shown-few : {C : Type 0} (f : Full → Left C) (c : Cells) (out : C) → length (c .state) < size → left 14 out ≡ shown f c out
-unfolding shown coded
-shown-few f c out l = few c (λ a. left (coded a) out) f l
-
-pub shown-done : {C : Type 0} (f : Full → Left C) (c : Cells) (out : C) → size ≤ length (c .state) → (r : Left C) → r ≡ f (fullIn c) → r ≡ shown f c out
-unfolding shown
-shown-done f c out l r e = e ∙ enough c (λ a. left (coded a) out) f l
+    ∙ enough sets c (λ a. left (coded a) c) (λ _. over (m (c .ind) (c .val) .ind) (m (c .ind) (c .val) .val) (madeIn (c .state) (m (c .ind) (c .val) .answer))) l refl
 
 -- ---- calls on two sets
 
@@ -81,19 +49,19 @@ module _ (f : Full → Full → Reply) (c d : Cells) where
 
   pub joining-few : length (c .state) < size → left 14 c ≡ joining f c d
   unfolding joining coded joined
-  joining-few l = few c (same c) joined l
+  joining-few l = few sets c (same c) joined l
 
   pub joining-short : size ≤ length (c .state) → length (d .state) < size → left 14 c ≡ joining f c d
   unfolding joining coded joined
-  joining-short l m = few d (same c) (λ h. written c (f (fullIn c) h)) m ∙ enough c (same c) joined l
+  joining-short l m = few sets d (same c) (λ h. written c (f (fullIn c) h)) m ∙ enough sets c (same c) joined l refl
 
-  pub joining-done : size ≤ length (c .state) → size ≤ length (d .state) → (r : Reply) → r ≡ f (fullIn c) (fullIn d) → (n : ℕ) (state : List ℕ) → left n state ≡ left (coded (r .answer)) (put (r .left .set) (c .state)) → left n (cells state (r .left .ind) (r .left .val)) ≡ joining f c d
+  pub joining-done : size ≤ length (c .state) → size ≤ length (d .state) → (r : Reply) → r ≡ f (fullIn c) (fullIn d) → (n : ℕ) (state : List ℕ) → left n state ≡ left (coded (r .answer)) (put (r .state .set) (c .state)) → left n (cells state (r .state .ind) (r .state .val)) ≡ joining f c d
   unfolding joining joined
   joining-done l m r e n state q =
-      ap (wide (r .left .ind) (r .left .val)) q
+      ap (wide (r .state .ind) (r .state .val)) q
       ∙ ap (written c) e
-      ∙ enough d (same c) (λ h. written c (f (fullIn c) h)) m
-      ∙ enough c (same c) joined l
+      ∙ enough sets d (same c) (λ h. written c (f (fullIn c) h)) m refl
+      ∙ enough sets c (same c) joined l refl
 
 module _ (f : Full → Full → List ℤ → Pared) (c d : Cells) (scratch : List ℤ) where
   parted : Full → Full → Left Worn
@@ -101,19 +69,19 @@ module _ (f : Full → Full → List ℤ → Pared) (c d : Cells) (scratch : Lis
 
   pub parting-few : length (c .state) < size → left 14 (worn c scratch) ≡ parting f c d scratch
   unfolding parting coded parted
-  parting-few l = few c (kept c scratch) (λ g. lentTo d (kept c scratch) (parted g)) l
+  parting-few l = few sets c (kept c scratch) (λ g. lentTo d (kept c scratch) (parted g)) l
 
   pub parting-short : size ≤ length (c .state) → length (d .state) < size → left 14 (worn c scratch) ≡ parting f c d scratch
   unfolding parting coded parted
-  parting-short l m = few d (kept c scratch) (parted (fullIn c)) m ∙ enough c (kept c scratch) (λ g. lentTo d (kept c scratch) (parted g)) l
+  parting-short l m = few sets d (kept c scratch) (parted (fullIn c)) m ∙ enough sets c (kept c scratch) (λ g. lentTo d (kept c scratch) (parted g)) l refl
 
   pub parting-done : size ≤ length (c .state) → size ≤ length (d .state) → (r : Pared) → r ≡ f (fullIn c) (fullIn d) scratch → (n : ℕ) (state : List ℕ) → left n state ≡ left (coded (pared r .answer)) (put (r .left .set) (c .state)) → left n (worn (cells state (r .left .ind) (r .left .val)) (r .scratch)) ≡ parting f c d scratch
   unfolding parting parted
   parting-done l m r e n state q =
       ap (λ (x : Left (List ℕ)). withScratch (r .scratch) (wide (r .left .ind) (r .left .val) x)) q
       ∙ ap (λ (x : Pared). withScratch (x .scratch) (written c (pared x))) e
-      ∙ enough d (kept c scratch) (parted (fullIn c)) m
-      ∙ enough c (kept c scratch) (λ g. lentTo d (kept c scratch) (parted g)) l
+      ∙ enough sets d (kept c scratch) (parted (fullIn c)) m refl
+      ∙ enough sets c (kept c scratch) (λ g. lentTo d (kept c scratch) (parted g)) l refl
 
 -- ---- a saved state in lent cells, by cases
 

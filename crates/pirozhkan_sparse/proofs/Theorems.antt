@@ -21,7 +21,7 @@ use Rattle.reply.specs.Told.{coded}
 use Rattle.reply.specs.Through.{left}
 use Rattle.pirozhkan_sparse.specs.Layout.{size, writtenOf, readOf}
 use Rattle.pirozhkan_sparse.specs.Lent.{Cells, cells, fullIn, put, Reply, written, through, worn, withScratch, pared, parting, joining}
-use Rattle.pirozhkan_sparse.proofs.LentLaws.{through-done, joining-done, parting-done}
+use Rattle.pirozhkan_sparse.proofs.LentLaws.{through-wide, joining-done, parting-done}
 
 -- ---- written, and read back
 
@@ -56,18 +56,18 @@ only-one cs s f e = sym (read-back s (drop size cs) f) ∙ ap readOf e
 -- ---- a refused call, of a set that isn't well formed or of any other
 
 -- the by-value call left all as it came: so does the exported one
-pub refused-same : (f : Full → Reply) (c : Cells) (r : Refusal) → size ≤ length (c .state) → Small (c .state) → f (fullIn c) ≡ record { left = fullIn c; answer = rules.denied r } → through f c ≡ left (coded (rules.denied r)) c
+pub refused-same : (f : Full → Reply) (c : Cells) (r : Refusal) → size ≤ length (c .state) → Small (c .state) → f (fullIn c) ≡ record { state = fullIn c; answer = rules.denied r } → through f c ≡ left (coded (rules.denied r)) c
 refused-same f c r h fit e =
     let s = f (fullIn c) in
-    sym (through-done f c h s refl (coded (s .answer)) (put (s .left .set) (c .state)) refl)
+    sym (through-wide f c h s refl (coded (s .answer)) (put (s .state .set) (c .state)) refl)
     ∙ ap (written c) e
     ∙ ap (λ (cs : List ℕ). left (coded (rules.denied r)) (cells cs (c .ind) (c .val))) (written-back (c .state) h fit)
 
 -- the same of two sets: the first is as it came, and the scratch
-pub joining-same : (f : Full → Full → Reply) (c d : Cells) (r : Refusal) → size ≤ length (c .state) → size ≤ length (d .state) → Small (c .state) → f (fullIn c) (fullIn d) ≡ record { left = fullIn c; answer = rules.denied r } → joining f c d ≡ left (coded (rules.denied r)) c
+pub joining-same : (f : Full → Full → Reply) (c d : Cells) (r : Refusal) → size ≤ length (c .state) → size ≤ length (d .state) → Small (c .state) → f (fullIn c) (fullIn d) ≡ record { state = fullIn c; answer = rules.denied r } → joining f c d ≡ left (coded (rules.denied r)) c
 joining-same f c d r h m fit e =
     let s = f (fullIn c) (fullIn d) in
-    sym (joining-done f c d h m s refl (coded (s .answer)) (put (s .left .set) (c .state)) refl)
+    sym (joining-done f c d h m s refl (coded (s .answer)) (put (s .state .set) (c .state)) refl)
     ∙ ap (written c) e
     ∙ ap (λ (cs : List ℕ). left (coded (rules.denied r)) (cells cs (c .ind) (c .val))) (written-back (c .state) h fit)
 

@@ -1,14 +1,12 @@
 -- A call on a sparse set that stands in lent cells: the state's cells are read as a set over the two orderings, the by-value call is made, and
 -- the state that it hands back is written. A state of fewer than five cells is refused, and all is left as it came. A set that isn't well
 -- formed is refused by the by-value call, and is written as it was read, which is cell for cell as it came (`Theorems.refused-same`).
-use mathlib.Core.Bool.{cond}
+use mathlib.Core.Bool.{true}
 use mathlib.Core.List.{List, _++_}
 use Prim.Native.Nat.{ℕ}
-use lib.Dec.{ltb}
 use lib.IntN.{ℤ}
 use lib.ListN.{length, drop}
 use Rattle.rules.specs.Board as rules
-use Rattle.rules.specs.declared.Refusal.the-variants.{NoRoom}
 use Rattle.sparse_inner.specs.Set.{Full, full}
 use Rattle.sparse_inner.specs.declared.Sparse.{Sparse}
 use Rattle.sparse.specs.Calls.{After}
@@ -25,7 +23,9 @@ use Rattle.sparse_make.specs.declared.Made.{Made}
 use Rattle.sparse_make.specs.declared.Made.the-variants as made
 use Rattle.sparse_pairs.specs.Calls.{Pared}
 use Rattle.reply.specs.Told.{coded}
-use Rattle.reply.specs.Through.{Left, left}
+use Rattle.reply.specs.Lent as lent
+use Rattle.reply.specs.Lent.{Layout, Left}
+use Rattle.reply.specs.Through.{left}
 use Rattle.pirozhkan_sparse.specs.Layout.{size, readOf, writtenOf}
 
 -- ---- the answers, in the words of the rules
@@ -63,28 +63,28 @@ fullIn c = full (readOf (c .state)) (c .ind) (c .val)
 abbrev pub put : Sparse → List ℕ → List ℕ
 put s state = writtenOf s ++ drop size state
 
--- too few cells for a state, or f's answer on the set that they are read as
+abbrev pub sets : Layout Cells Full
+sets = record { size = size; many = λ c. length (c .state); good = λ _. true; read = fullIn; write = λ f c. cells (put (f .set) (c .state)) (f .ind) (f .val) }
+
 abbrev pub lentTo : {A : Type 0} → Cells → (rules.Answer → A) → (Full → A) → A
-lentTo c refused f = cond (ltb (length (c .state)) size) (refused (rules.denied NoRoom)) (f (fullIn c))
+lentTo c refused f = lent.lentTo sets c refused f
 
 -- ---- calls that change a set
 
--- what a by-value call hands back
-pub record Reply : Type 0 where
-  pub left : Full
-  pub answer : rules.Answer
+abbrev pub Reply : Type 0
+Reply = lent.Reply Full
 
 abbrev pub changed : After Told → Reply
-changed r = record { left = r .left; answer = toldOf (r .answer) }
+changed r = record { state = r .left; answer = toldOf (r .answer) }
 
 abbrev pub narrowed : After Outcome → Reply
-narrowed r = record { left = r .left; answer = outcomeOf (r .answer) }
+narrowed r = record { state = r .left; answer = outcomeOf (r .answer) }
 
 abbrev pub written : Cells → Reply → Left Cells
-written c r = left (coded (r .answer)) (cells (put (r .left .set) (c .state)) (r .left .ind) (r .left .val))
+written c r = lent.written sets c r
 
-unfoldable pub through : (Full → Reply) → Cells → Left Cells
-through f c = lentTo c (λ a. left (coded a) c) (λ g. written c (f g))
+abbrev pub through : (Full → Reply) → Cells → Left Cells
+through f c = lent.through sets f c
 
 -- ---- a new set is written whatever the state's cells are
 
@@ -102,11 +102,11 @@ begun make c =
 
 -- ---- questions: nothing is written but the answer's own cells
 
-unfoldable pub answered : (Full → rules.Answer) → Cells → ℕ
-answered f c = lentTo c coded (λ g. coded (f g))
+abbrev pub answered : (Full → rules.Answer) → Cells → ℕ
+answered f c = lent.answered sets f c
 
-unfoldable pub shown : {C : Type 0} → (Full → Left C) → Cells → C → Left C
-shown f c out = lentTo c (λ a. left (coded a) out) f
+abbrev pub shown : {C : Type 0} → (Full → Left C) → Cells → C → Left C
+shown f c out = lent.shown sets f c out
 
 -- ---- calls on two sets: the second is only read
 
@@ -122,7 +122,7 @@ abbrev pub withScratch : List ℤ → Left Cells → Left Worn
 withScratch scratch r = left (r .code) (worn (r .cells) scratch)
 
 abbrev pub pared : Pared → Reply
-pared p = record { left = p .left; answer = outcomeOf (p .answer) }
+pared p = record { state = p .left; answer = outcomeOf (p .answer) }
 
 -- what is left where there is no room for a state
 abbrev pub kept : Cells → List ℤ → rules.Answer → Left Worn

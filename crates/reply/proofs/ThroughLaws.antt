@@ -15,6 +15,7 @@ use Rattle.state.specs.Layout.{size, fitsOf, readOf, writtenOf}
 use Rattle.state.specs.Typed.{Words}
 use Rattle.state.proofs.Theorems.{written-back}
 use Rattle.reply.specs.Told.{coded}
+use Rattle.reply.specs.Lent as any
 use Rattle.reply.specs.Through.{lentTo, Reply, Left, left, written, through, begun, answered, shown, judgeOf}
 
 -- ---- the first test
@@ -54,10 +55,10 @@ lent ws r f e h =
 
 -- what every by-value call does with a board that isn't well formed
 abbrev pub Guarded : (Board → Reply) → Type 0
-Guarded f = (b : Board) → wellBoard b ≡ false → f b ≡ record { board = b; answer = rules.denied Broken }
+Guarded f = (b : Board) → wellBoard b ≡ false → f b ≡ record { state = b; answer = rules.denied Broken }
 
 pub through-refused : (f : Board → Reply) (ws : List ℕ) → (judgeOf ws ≡ 0 → ⊥) → left (judgeOf ws) ws ≡ through f ws
-unfolding through
+unfolding any.through
 through-refused f ws ne = refused ws (λ a. left (coded a) ws) (λ b. written ws (f b)) (λ n. left n ws) (λ a. refl) ne
 
 -- the same, by what `judge` answered
@@ -66,7 +67,7 @@ through-why f ws n e ne = ap (λ (k : ℕ). left k ws) e ∙ through-refused f w
 
 -- words that pass the first test and aren't a well-formed board's are written as they were
 pub through-passed : (f : Board → Reply) (ws : List ℕ) → Guarded f → Words ws → judgeOf ws ≡ 0 → (r : Reply) → r ≡ f (readOf ws) → written ws r ≡ through f ws
-unfolding through
+unfolding any.through
 through-passed f ws g fit e r q =
     let p = passed ws e in
     ap (written ws) q
@@ -76,25 +77,25 @@ through-passed f ws g fit e r q =
 -- ---- questions
 
 pub answered-refused : (f : Board → rules.Answer) (ws : List ℕ) → (judgeOf ws ≡ 0 → ⊥) → judgeOf ws ≡ answered f ws
-unfolding answered
+unfolding any.answered
 answered-refused f ws ne = refused ws coded (λ b. coded (f b)) (λ n. n) (λ a. refl) ne
 
 pub answered-why : (f : Board → rules.Answer) (ws : List ℕ) (n : ℕ) → n ≡ judgeOf ws → (n ≡ 0 → ⊥) → n ≡ answered f ws
 answered-why f ws n e ne = e ∙ answered-refused f ws (λ z. ne (e ∙ z))
 
 pub answered-passed : (f : Board → rules.Answer) (ws : List ℕ) → ((b : Board) → wellBoard b ≡ false → f b ≡ rules.denied Broken) → judgeOf ws ≡ 0 → (a : rules.Answer) → a ≡ f (readOf ws) → coded a ≡ answered f ws
-unfolding answered
+unfolding any.answered
 answered-passed f ws g e a q = ap coded q ∙ lent ws coded (λ b. coded (f b)) e (λ bad. ap coded (g (readOf ws) bad))
 
 pub shown-refused : {C : Type 0} (f : Board → Left C) (ws : List ℕ) (cells : C) → (judgeOf ws ≡ 0 → ⊥) → left (judgeOf ws) cells ≡ shown f ws cells
-unfolding shown
+unfolding any.shown
 shown-refused f ws cells ne = refused ws (λ a. left (coded a) cells) f (λ n. left n cells) (λ a. refl) ne
 
 pub shown-why : {C : Type 0} (f : Board → Left C) (ws : List ℕ) (cells : C) (n : ℕ) → n ≡ judgeOf ws → (n ≡ 0 → ⊥) → left n cells ≡ shown f ws cells
 shown-why f ws cells n e ne = ap (λ (k : ℕ). left k cells) e ∙ shown-refused f ws cells (λ z. ne (e ∙ z))
 
 pub shown-passed : {C : Type 0} (f : Board → Left C) (ws : List ℕ) (cells : C) → ((b : Board) → wellBoard b ≡ false → f b ≡ left (coded (rules.denied Broken)) cells) → judgeOf ws ≡ 0 → f (readOf ws) ≡ shown f ws cells
-unfolding shown
+unfolding any.shown
 shown-passed f ws cells g e = lent ws (λ a. left (coded a) cells) f e (g (readOf ws))
 
 -- ---- a new board

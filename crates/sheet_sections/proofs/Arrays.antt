@@ -1,15 +1,16 @@
 -- Sections: a count line, then rows that fill an array from the front. Assumes nothing.
-use Prim.Native.Nat.{ℕ, zero, suc, _+_}
+use Prim.Native.Nat.{ℕ, zero, suc, _+_, _-_, _≤_, _<_}
 use mathlib.Core.Path.{_≡_, refl, ap, sym, _∙_}
 use mathlib.Core.List.{List, [], _∷_, _++_}
 use native.Mathlib.Omega.{arith}
-use native.Mathlib.Nat.{add-zero}
+use native.Mathlib.Nat.{add-zero, sub-zero}
 use lib.ListN.{length, set, replicate, length-append}
 use lib.Seq.{sets}
 use Rattle.sheet_form.specs.Held.{filled}
 use Rattle.sheet_number.specs.declared.Fault.{Fault}
 use Rattle.sheet_number.specs.Number.{Got, got, fault}
 use Rattle.sheet_number.specs.Reader.{Reader, after, natural, field, each, times}
+use Rattle.sheet_number.proofs.Readers.{prefixed, prefixed-none, each-fault, each-more, each-done}
 use Rattle.sheet_sections.specs.Sections.{section}
 
 -- ---- an array filled from the front
@@ -28,6 +29,26 @@ filled-more n blank ds i d e =
 
 pub length-more : {A : Type 0} (ds : List A) (d : A) (i : ℕ) → length ds ≡ i → length (ds ++ (d ∷ [])) ≡ i + 1
 length-more ds d i e = omega (arith, length-append ds (d ∷ []))
+
+-- ---- several read one after the other, the first i of them so far: what all give is these and what those to come give
+
+pub record Sofar {A : Type 0} (f : ℕ → Reader A) (s : List ℕ) (at count : ℕ) (ds : List A) (place i : ℕ) : Type 0 where
+  pub within : i ≤ count
+  pub many : length ds ≡ i
+  pub total : each f count s at ≡ prefixed ds (each f (count - i) s place)
+
+pub sofar-none : {A : Type 0} (f : ℕ → Reader A) (s : List ℕ) (at count : ℕ) → Sofar f s at count [] at 0
+sofar-none f s at count = record { within = omega arith; many = refl; total = prefixed-none _ ∙ ap (λ (k : ℕ). prefixed [] (each f k s at)) (sym (sub-zero count)) }
+
+module _ {A : Type 0} {f : ℕ → Reader A} {s : List ℕ} {at count : ℕ} {ds : List A} {place i : ℕ} (v : Sofar f s at count ds place i) where
+  pub sofar-fault : i < count → (k : Fault) (p : ℕ) → f (count - (i + 1)) s place ≡ fault k p → each f count s at ≡ fault k p
+  sofar-fault l k p e = each-fault f s _ count i ds place (v .total) k p l e
+
+  pub sofar-more : i < count → (d : A) (e : ℕ) → f (count - (i + 1)) s place ≡ got d e → Sofar f s at count (ds ++ (d ∷ [])) e (i + 1)
+  sofar-more l d e q = record { within = omega arith; many = length-more ds d i (v .many); total = each-more f s _ count i ds place (v .total) d e l q }
+
+  pub sofar-all : count ≤ i → (each f count s at ≡ got ds place) × (count ≡ length ds)
+  sofar-all l = (each-done f s _ count i ds place (v .total) (omega (arith, v .within)), omega (arith, v .within, v .many))
 
 -- ---- a section, by its count line
 

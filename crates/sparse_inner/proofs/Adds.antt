@@ -1,6 +1,6 @@
 -- The laws of adding an offset that is not held: it is exchanged with the cell at the size. Assumes nothing.
-use mathlib.Core.Path.{_≡_, refl, sym, _∙_, subst}
-use mathlib.Core.Logic.{_≢_, _⊎_, inl, inr, ⊎-elim}
+use mathlib.Core.Path.{_≡_, refl, sym, _∙_}
+use mathlib.Core.Logic.{_⊎_, inl, inr, ⊎-elim}
 use mathlib.Core.Bool.{Bool, true, false, cond}
 use mathlib.Core.List.{List}
 use Prim.Native.Nat.{ℕ, _+_, _-_, _≤_, _<_}
@@ -10,66 +10,54 @@ use native.Mathlib.Omega.{arith}
 use lib.Dec.{ltb}
 use lib.ListN.{getD}
 use borrow.Author.Tests.{ltb-true, ltb-false, lt-ltb, le-ltb, eq-eqb, ne-eqb}
-use Rattle.order.specs.Order.{swapped, Inverse}
-use Rattle.order.proofs.Orders.{ind-inj, ind-a, ind-b, ind-other, exchange-inverse, length-swapped}
+use Rattle.order.specs.Order.{swapped}
+use Rattle.order.proofs.Orders.{ind-inj, length-swapped}
 use Rattle.sparse_inner.specs.declared.Sparse.{Sparse}
 use Rattle.sparse_inner.specs.Set.{Full, full, Held, heldB, Well, WellF}
 use Rattle.sparse_inner.specs.Scan.{Greatest, Least, lowWith, highWith}
 use Rattle.sparse_inner.specs.Change.{resized, added, addAt, holdsAt}
 use Rattle.sparse_inner.proofs.Sets.{greatest-is, least-is}
+use Rattle.sparse_inner.proofs.Exchanged.{Exchanged, exchanged}
 use Rattle.sparse_inner.proofs.Drops.{true-bounds}
 
 module _ (s : Sparse) (ind val : List ℕ) (W : Well s ind val) (o : ℕ) (ho : o < s .n) (out : s .size ≤ getD ind o 0) where
   pub room : s .size < s .n
   room = omega (arith, W .inverse .ind-lt o ho)
 
-  pub l-lt : getD val (s .size) 0 < s .n
-  l-lt = W .inverse .val-lt (s .size) room
+  -- with the first cell that isn't held
+  x : Exchanged ind val (s .n) o (s .size)
+  x = exchanged s ind val W o (s .size) ho room
 
-  pub l-at : getD ind (getD val (s .size) 0) 0 ≡ s .size
-  l-at = W .inverse .ind-val (s .size) room
+  pub l-lt : getD val (s .size) 0 < s .n
+  l-lt = x .l-lt
 
   inj : (a b : ℕ) → a < s .n → b < s .n → getD ind a 0 ≡ getD ind b 0 → a ≡ b
   inj = ind-inj ind val (s .n) (W .inverse) (W .room-ind) (W .room-val)
 
-  o-now : getD (swapped o (getD val (s .size) 0) ind) o 0 ≡ s .size
-  o-now = ind-a ind val (s .n) (W .inverse) (W .room-ind) (W .room-val) o (getD val (s .size) 0) ho l-lt ∙ l-at
-
-  l-now : getD (swapped o (getD val (s .size) 0) ind) (getD val (s .size) 0) 0 ≡ getD ind o 0
-  l-now = ind-b ind val (s .n) (W .inverse) (W .room-ind) (W .room-val) o (getD val (s .size) 0) ho l-lt
-
-  k-now : (k : ℕ) → k ≢ o → k ≢ getD val (s .size) 0 → getD (swapped o (getD val (s .size) 0) ind) k 0 ≡ getD ind k 0
-  k-now k p q = ind-other ind val (s .n) (W .inverse) (W .room-ind) (W .room-val) o (getD val (s .size) 0) ho l-lt k p q
-
   pub new-held : Held (swapped o (getD val (s .size) 0) ind) (s .n) (s .size + 1) o
-  new-held = record { in-universe = ho; in-set = omega (arith, o-now) }
+  new-held = record { in-universe = ho; in-set = omega (arith, x .o-now) }
 
   pub old-held : (k : ℕ) → Held ind (s .n) (s .size) k → Held (swapped o (getD val (s .size) 0) ind) (s .n) (s .size + 1) k
   old-held k h = record { in-universe = h .in-universe; in-set = go (ℕ-discrete k o) (ℕ-discrete k (getD val (s .size) 0)) }
     where
       go : Dec (k ≡ o) → Dec (k ≡ getD val (s .size) 0) → getD (swapped o (getD val (s .size) 0) ind) k 0 < s .size + 1
-      go (yes e) d = rw (e, o-now) (omega arith)
-      go (no f) (yes e) = absurd (let q : getD ind (getD val (s .size) 0) 0 < s .size = rw e at (h .in-set) in omega (arith, l-at))
-      go (no f) (no g) = rw (k-now k f g) (omega (arith, h .in-set))
+      go (yes e) d = rw (e, x .o-now) (omega arith)
+      go (no f) (yes e) = absurd (let q : getD ind (getD val (s .size) 0) 0 < s .size = rw e at (h .in-set) in omega (arith, x .l-at))
+      go (no f) (no g) = rw (x .k-now k f g) (omega (arith, h .in-set))
 
   pub held-before : (k : ℕ) → Held (swapped o (getD val (s .size) 0) ind) (s .n) (s .size + 1) k → (k ≡ o) ⊎ Held ind (s .n) (s .size) k
   held-before k h = go (ℕ-discrete k o) (ℕ-discrete k (getD val (s .size) 0))
     where
-      below : (x : ℕ) → x < s .size + 1 → (x ≡ s .size → ⊥) → x < s .size
-      below x a b = ⊎-elim (λ (q : x ≡ s .size). absurd (b q)) (λ (l : x < s .size). l) (eq-or-lt-of-le (omega arith))
+      below : (i : ℕ) → i < s .size + 1 → (i ≡ s .size → ⊥) → i < s .size
+      below i a b = ⊎-elim (λ (q : i ≡ s .size). absurd (b q)) (λ (l : i < s .size). l) (eq-or-lt-of-le (omega arith))
 
       go : Dec (k ≡ o) → Dec (k ≡ getD val (s .size) 0) → (k ≡ o) ⊎ Held ind (s .n) (s .size) k
       go (yes e) d = inl e
       go (no f) (yes e) =
           let q : getD (swapped o (getD val (s .size) 0) ind) (getD val (s .size) 0) 0 < s .size + 1 = rw e at (h .in-set) in
-          absurd (f (e ∙ sym (inj o (getD val (s .size) 0) ho l-lt (omega (arith, l-now, l-at)))))
+          absurd (f (e ∙ sym (inj o (getD val (s .size) 0) ho l-lt (omega (arith, x .l-now, x .l-at)))))
       go (no f) (no g) =
-          inr (record { in-universe = h .in-universe; in-set = below (getD ind k 0) (omega (arith, h .in-set, k-now k f g)) (λ q. g (inj k (getD val (s .size) 0) (h .in-universe) l-lt (q ∙ sym l-at))) })
-
-  pub inverse-added : Inverse (swapped o (getD val (s .size) 0) ind) (swapped (getD ind o 0) (s .size) val) (s .n)
-  inverse-added =
-      subst (λ (x : ℕ). Inverse (swapped o (getD val (s .size) 0) ind) (swapped (getD ind o 0) x val) (s .n)) l-at
-      (exchange-inverse ind val (s .n) (W .inverse) (W .room-ind) (W .room-val) o (getD val (s .size) 0) ho l-lt)
+          inr (record { in-universe = h .in-universe; in-set = below (getD ind k 0) (omega (arith, h .in-set, x .k-now k f g)) (λ q. g (inj k (getD val (s .size) 0) (h .in-universe) l-lt (q ∙ sym (x .l-at)))) })
 
   pub least-with : Least (swapped o (getD val (s .size) 0) ind) (s .n) (s .size + 1) (s .min) (lowWith (s .size) (s .min) o)
   least-with = go (ℕ-discrete (s .size) 0) (ltb o (s .min)) refl
@@ -151,6 +139,6 @@ add-at-well f o W = go (ltb o (f .set .n)) refl (holdsAt f o) refl
           room-val = rw length-swapped (W .room-val);
           within = omega (arith, room (f .set) (f .ind) (f .val) W o u x);
           universe = W .universe;
-          inverse = inverse-added (f .set) (f .ind) (f .val) W o u x;
+          inverse = exchanged (f .set) (f .ind) (f .val) W o (f .set .size) u (room (f .set) (f .ind) (f .val) W o u x) .inverse;
           bounds = λ h. rw (ne-eqb (f .set .size + 1) 0 (λ e. omega arith)) (true-bounds (swapped o (getD (f .val) (f .set .size) 0) (f .ind)) (f .set .n) (f .set .size + 1) o (new-held (f .set) (f .ind) (f .val) W o u x));
         }

@@ -1,43 +1,39 @@
 -- All dropped but one offset, which is exchanged with cell 0. Assumes nothing.
-use mathlib.Core.Path.{_≡_, refl, _∙_, subst}
+use mathlib.Core.Path.{_≡_, refl}
 use mathlib.Core.Bool.{Bool, true, false, cond}
 use mathlib.Core.List.{List}
 use Prim.Native.Nat.{ℕ, _-_, _<_}
 use native.Mathlib.Omega.{arith}
 use lib.ListN.{getD}
-use Rattle.order.specs.Order.{swapped, Inverse}
-use Rattle.order.proofs.Orders.{ind-inj, ind-a, exchange-inverse, length-swapped}
+use Rattle.order.specs.Order.{swapped}
+use Rattle.order.proofs.Orders.{ind-inj, length-swapped}
 use Rattle.sparse_inner.specs.declared.Sparse.{Sparse}
 use Rattle.sparse_inner.specs.Set.{Full, full, Held, Well, WellF}
 use Rattle.sparse_inner.specs.Change.{holdsAt, emptied, alone, onlyAt}
 use Rattle.sparse_inner.proofs.Sets.{held-of}
+use Rattle.sparse_inner.proofs.Exchanged.{Exchanged, exchanged}
 use Rattle.sparse_inner.proofs.Runs.{emptied-well}
 
 module _ (s : Sparse) (ind val : List ℕ) (W : Well s ind val) (o : ℕ) (H : Held ind (s .n) (s .size) o) where
   pub some-cell : 0 < s .n
   some-cell = omega (arith, H .in-universe)
 
+  x : Exchanged ind val (s .n) o 0
+  x = exchanged s ind val W o 0 (H .in-universe) some-cell
+
   pub first-lt : getD val 0 0 < s .n
-  first-lt = W .inverse .val-lt 0 some-cell
+  first-lt = x .l-lt
 
   pub first-at : getD ind (getD val 0 0) 0 ≡ 0
-  first-at = W .inverse .ind-val 0 some-cell
-
-  pub inverse-alone : Inverse (swapped o (getD val 0 0) ind) (swapped (getD ind o 0) 0 val) (s .n)
-  inverse-alone =
-      subst (λ (x : ℕ). Inverse (swapped o (getD val 0 0) ind) (swapped (getD ind o 0) x val) (s .n)) first-at
-      (exchange-inverse ind val (s .n) (W .inverse) (W .room-ind) (W .room-val) o (getD val 0 0) (H .in-universe) first-lt)
-
-  o-now : getD (swapped o (getD val 0 0) ind) o 0 ≡ 0
-  o-now = ind-a ind val (s .n) (W .inverse) (W .room-ind) (W .room-val) o (getD val 0 0) (H .in-universe) first-lt ∙ first-at
+  first-at = x .l-at
 
   pub o-held : Held (swapped o (getD val 0 0) ind) (s .n) 1 o
-  o-held = record { in-universe = H .in-universe; in-set = omega (arith, o-now) }
+  o-held = record { in-universe = H .in-universe; in-set = omega (arith, x .o-now) }
 
   pub only-o : (k : ℕ) → Held (swapped o (getD val 0 0) ind) (s .n) 1 k → k ≡ o
   only-o k h =
-      ind-inj (swapped o (getD val 0 0) ind) (swapped (getD ind o 0) 0 val) (s .n) inverse-alone (rw length-swapped (W .room-ind)) (rw length-swapped (W .room-val)) k o (h .in-universe) (H .in-universe)
-      (omega (arith, h .in-set, o-now))
+      ind-inj (swapped o (getD val 0 0) ind) (swapped (getD ind o 0) 0 val) (s .n) (x .inverse) (rw length-swapped (W .room-ind)) (rw length-swapped (W .room-val)) k o (h .in-universe) (H .in-universe)
+      (omega (arith, h .in-set, x .o-now))
 
   alone-well : WellF (alone (full s ind val) o)
   unfolding alone
@@ -47,12 +43,12 @@ module _ (s : Sparse) (ind val : List ℕ) (W : Well s ind val) (o : ℕ) (H : H
     room-val = rw length-swapped (W .room-val);
     within = some-cell;
     universe = W .universe;
-    inverse = inverse-alone;
+    inverse = x .inverse;
     bounds = λ h. record {
       min-held = o-held;
       max-held = o-held;
-      least = λ k x. omega (arith, only-o k x);
-      most = λ k x. omega (arith, only-o k x);
+      least = λ k h. omega (arith, only-o k h);
+      most = λ k h. omega (arith, only-o k h);
     };
   }
 

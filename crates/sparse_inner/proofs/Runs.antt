@@ -8,9 +8,10 @@ use lib.Dec.{ltb, eqb}
 use lib.ListN.{length}
 use borrow.Author.Tests.{eq-eqb, ne-eqb}
 use Rattle.order.proofs.Orders.{length-swapped, not-yes}
+use Rattle.rules.proofs.Tests.{and-false}
 use Rattle.sparse_inner.specs.Set.{Full, Held, WellF}
 use Rattle.sparse_inner.specs.Change.{resized, holdsAt, dropped, dropAt, dropWhere, dropRun, emptied, fromCut, underCut}
-use Rattle.sparse_inner.proofs.Sets.{held-of, of-held, true-false, left-held, left-ne, stays-held}
+use Rattle.sparse_inner.proofs.Sets.{held-of, of-held, true-false, and-true, left-held, left-ne, stays-held}
 use Rattle.sparse_inner.proofs.Drops.{drop-held, drop-none, drop-at-well}
 
 -- ---- what a drop holds: what was held, but o
@@ -28,11 +29,7 @@ dropped-holds f o W e k = go (ℕ-discrete k o) (holdsAt f k) refl
     H = hold-of f o e
 
     go : Dec (k ≡ o) → (b : Bool) → holdsAt f k ≡ b → holdsAt (dropped f o) k ≡ b && not (eqb k o)
-    go (yes q) b t = rw (eq-eqb k o q) (not-yes (holdsAt (dropped f o) k) (λ z. left-ne (f .set) (f .ind) (f .val) W o H k (held-of _ _ _ k z) q) ∙ sym (none b))
-      where
-        none : (b : Bool) → b && false ≡ false
-        none true = refl
-        none false = refl
+    go (yes q) b t = rw (eq-eqb k o q) (not-yes (holdsAt (dropped f o) k) (λ z. left-ne (f .set) (f .ind) (f .val) W o H k (held-of _ _ _ k z) q) ∙ sym (and-false b))
     go (no g) true t = rw (ne-eqb k o g) (of-held _ _ _ k (stays-held (f .set) (f .ind) (f .val) W o H k (hold-of f k t) g))
     go (no g) false t = not-yes (holdsAt (dropped f o) k) (λ z. true-false (holdsAt f k) (of-hold f k (left-held (f .set) (f .ind) (f .val) W o H k (held-of _ _ _ k z))) t)
 
@@ -46,11 +43,7 @@ drop-holds f o W k = go (holdsAt f o) refl
         kept : Dec (k ≡ o) → (b : Bool) → holdsAt f k ≡ b → b ≡ b && not (eqb k o)
         kept (yes q) true t = absurd (true-false (holdsAt f o) (rw q at t) e)
         kept (yes q) false t = refl
-        kept (no g) b t = rw (ne-eqb k o g) (sym (all b))
-          where
-            all : (b : Bool) → b && true ≡ b
-            all true = refl
-            all false = refl
+        kept (no g) b t = rw (ne-eqb k o g) (sym (and-true b))
 
 -- ---- the frame: neither the universe nor the room changes
 pub record Frame (f g : Full) : Type 0 where

@@ -1,7 +1,7 @@
 -- The laws of a sparse set: its test of an offset, the bounds that a scan finds, and what dropping an offset leaves. Assumes nothing.
 use mathlib.Core.Path.{_≡_, refl, sym, _∙_, subst}
 use mathlib.Core.Logic.{_≢_, _⊎_, ⊎-elim, inl, inr}
-use mathlib.Core.Bool.{Bool, true, false, cond}
+use mathlib.Core.Bool.{Bool, true, false, cond, _&&_}
 use mathlib.Core.List.{List}
 use Prim.Native.Nat.{ℕ, zero, suc, _+_, _-_, _≤_, _<_}
 use native.Mathlib.Decide.{ℕ-discrete}
@@ -11,11 +11,12 @@ use lib.Dec.{ltb, eqb}
 use lib.ListN.{getD}
 use borrow.Author.Tests.{ltb-true, lt-ltb, eq-eqb, ne-eqb}
 use Rattle.order.specs.Order.{swapped, Inverse}
-use Rattle.order.proofs.Orders.{and-left, and-right, ind-inj, ind-a, ind-b, ind-other, exchange-inverse}
+use Rattle.order.proofs.Orders.{and-left, and-right, ind-inj}
 use Rattle.sparse_inner.specs.declared.Sparse.{Sparse}
 use Rattle.sparse_inner.specs.Set.{Held, heldB, Well}
 use Rattle.sparse_inner.specs.Scan.{Spans, Greatest, Least}
 use Rattle.sparse_inner.specs.Change.{highest, lowFrom, lowest}
+use Rattle.sparse_inner.proofs.Exchanged.{Exchanged, exchanged}
 
 -- ---- the test of an offset
 module _ (ind : List ℕ) (n size o : ℕ) where
@@ -36,6 +37,11 @@ above-more P v hi h all here k a b = ⊎-elim (λ (e : v ≡ k). subst P e here)
 
 pub from-more : (P : ℕ → Type 0) (lo v : ℕ) → ((k : ℕ) → lo ≤ k → k < v → P k) → P v → (k : ℕ) → lo ≤ k → k < v + 1 → P k
 from-more P lo v all here k a b = ⊎-elim (λ (e : k ≡ v). subst P (sym e) here) (λ (l : k < v). all k a l) (eq-or-lt-of-le (omega arith))
+
+le-or-lt : (x y : ℕ) → (x ≤ y) ⊎ (y < x)
+le-or-lt zero y = inl (omega arith)
+le-or-lt (suc x) zero = inr (omega arith)
+le-or-lt (suc x) (suc y) = ⊎-elim (λ (p : x ≤ y). inl (omega arith)) (λ (q : y < x). inr (omega arith)) (le-or-lt x y)
 
 -- ---- the bounds after o was dropped
 module _ (ind : List ℕ) (n size min max o : ℕ) (pos : 0 < size) (S : Spans ind n size min max o) where
@@ -67,14 +73,9 @@ module _ (ind : List ℕ) (n size min max o : ℕ) (pos : 0 < size) (S : Spans i
     held = λ _. ⊎-elim (λ (q : min ≡ r). subst (λ (x : ℕ). Held ind n size x) q (S .min-in (λ m. omega arith)))
         (λ (l : min < r). record { in-universe = omega (arith, S .o-lt); in-set = f l }) (eq-or-lt-of-le a);
     most = λ _ k h. ⊎-elim (λ (q : k ≡ o). absurd (out k h q))
-        (λ (l : k < o). small k h l (ℕ-le k r)) (eq-or-lt-of-le (omega (arith, S .high k h)));
+        (λ (l : k < o). small k h l (le-or-lt k r)) (eq-or-lt-of-le (omega (arith, S .high k h)));
   }
     where
-      ℕ-le : (x y : ℕ) → (x ≤ y) ⊎ (y < x)
-      ℕ-le zero y = inl (omega arith)
-      ℕ-le (suc x) zero = inr (omega arith)
-      ℕ-le (suc x) (suc y) = ⊎-elim (λ (p : x ≤ y). inl (omega arith)) (λ (q : y < x). inr (omega arith)) (ℕ-le x y)
-
       small : (k : ℕ) → Held ind n size k → k < o → (k ≤ r) ⊎ (r < k) → k ≤ r
       small k h l (inl p) = p
       small k h l (inr q) = absurd (omega (arith, g k q l, h .in-set))
@@ -85,14 +86,9 @@ module _ (ind : List ℕ) (n size min max o : ℕ) (pos : 0 < size) (S : Spans i
     held = λ _. ⊎-elim (λ (q : r ≡ max). subst (λ (x : ℕ). Held ind n size x) (sym q) (S .max-in (λ m. omega arith)))
         (λ (l : r < max). record { in-universe = omega (arith, S .max-lt); in-set = f l }) (eq-or-lt-of-le b);
     least = λ _ k h. ⊎-elim (λ (q : o ≡ k). absurd (out k h (sym q)))
-        (λ (l : o < k). small k h l (ℕ-le r k)) (eq-or-lt-of-le (omega (arith, S .low k h)));
+        (λ (l : o < k). small k h l (le-or-lt r k)) (eq-or-lt-of-le (omega (arith, S .low k h)));
   }
     where
-      ℕ-le : (x y : ℕ) → (x ≤ y) ⊎ (y < x)
-      ℕ-le zero y = inl (omega arith)
-      ℕ-le (suc x) zero = inr (omega arith)
-      ℕ-le (suc x) (suc y) = ⊎-elim (λ (p : x ≤ y). inl (omega arith)) (λ (q : y < x). inr (omega arith)) (ℕ-le x y)
-
       small : (k : ℕ) → Held ind n size k → o < k → (r ≤ k) ⊎ (k < r) → r ≤ k
       small k h l (inl p) = p
       small k h l (inr q) = absurd (omega (arith, g k (omega arith) q, h .in-set))
@@ -100,6 +96,10 @@ module _ (ind : List ℕ) (n size min max o : ℕ) (pos : 0 < size) (S : Spans i
 -- ---- the greatest and the least number that a test takes
 pub true-false : (b : Bool) → b ≡ true → b ≡ false → ⊥
 true-false b p q = let z : _≡_ {A = Bool} true false = cc in let y : _≡_ {A = ℕ} 0 1 = cc in omega arith
+
+pub and-true : (b : Bool) → b && true ≡ b
+and-true true = refl
+and-true false = refl
 
 pub high-is : (p : ℕ → Bool) (n r : ℕ) → r < n → p r ≡ true → ((k : ℕ) → k < n → p k ≡ true → k ≤ r) → highest p n ≡ r
 unfolding highest
@@ -156,21 +156,15 @@ module _ (s : Sparse) (ind val : List ℕ) (W : Well s ind val) (o : ℕ) (H : H
   pub last-in : s .size - 1 < s .n
   last-in = omega (arith, some, W .within)
 
+  -- with the last held cell
+  x : Exchanged ind val (s .n) o (s .size - 1)
+  x = exchanged s ind val W o (s .size - 1) (H .in-universe) last-in
+
   pub l-lt : getD val (s .size - 1) 0 < s .n
-  l-lt = W .inverse .val-lt (s .size - 1) last-in
+  l-lt = x .l-lt
 
   pub l-at : getD ind (getD val (s .size - 1) 0) 0 ≡ s .size - 1
-  l-at = W .inverse .ind-val (s .size - 1) last-in
-
-  -- where each offset stands now
-  pub o-now : getD (swapped o (getD val (s .size - 1) 0) ind) o 0 ≡ s .size - 1
-  o-now = ind-a ind val (s .n) (W .inverse) (W .room-ind) (W .room-val) o (getD val (s .size - 1) 0) (H .in-universe) l-lt ∙ l-at
-
-  pub l-now : getD (swapped o (getD val (s .size - 1) 0) ind) (getD val (s .size - 1) 0) 0 ≡ getD ind o 0
-  l-now = ind-b ind val (s .n) (W .inverse) (W .room-ind) (W .room-val) o (getD val (s .size - 1) 0) (H .in-universe) l-lt
-
-  pub k-now : (k : ℕ) → k ≢ o → k ≢ getD val (s .size - 1) 0 → getD (swapped o (getD val (s .size - 1) 0) ind) k 0 ≡ getD ind k 0
-  k-now k p q = ind-other ind val (s .n) (W .inverse) (W .room-ind) (W .room-val) o (getD val (s .size - 1) 0) (H .in-universe) l-lt k p q
+  l-at = x .l-at
 
   -- held after: held before, and not o
   pub left-held : (k : ℕ) → Held (swapped o (getD val (s .size - 1) 0) ind) (s .n) (s .size - 1) k → Held ind (s .n) (s .size) k
@@ -178,13 +172,13 @@ module _ (s : Sparse) (ind val : List ℕ) (W : Well s ind val) (o : ℕ) (H : H
     where
       go : Dec (k ≡ o) → Dec (k ≡ getD val (s .size - 1) 0) → getD ind k 0 < s .size
       go (yes e) d = rw e (H .in-set)
-      go (no f) (yes e) = rw (e, l-at) (omega (arith, some))
-      go (no f) (no g) = omega (arith, h .in-set, k-now k f g)
+      go (no f) (yes e) = rw (e, x .l-at) (omega (arith, some))
+      go (no f) (no g) = omega (arith, h .in-set, x .k-now k f g)
 
   pub left-ne : (k : ℕ) → Held (swapped o (getD val (s .size - 1) 0) ind) (s .n) (s .size - 1) k → k ≢ o
   left-ne k h e =
       let q : getD (swapped o (getD val (s .size - 1) 0) ind) o 0 < s .size - 1 = rw e at (h .in-set) in
-      omega (arith, o-now)
+      omega (arith, x .o-now)
 
   pub stays-held : (k : ℕ) → Held ind (s .n) (s .size) k → k ≢ o → Held (swapped o (getD val (s .size - 1) 0) ind) (s .n) (s .size - 1) k
   stays-held k h f = record { in-universe = h .in-universe; in-set = go (ℕ-discrete k (getD val (s .size - 1) 0)) }
@@ -196,18 +190,16 @@ module _ (s : Sparse) (ind val : List ℕ) (W : Well s ind val) (o : ℕ) (H : H
       below x a b = ⊎-elim (λ (q : x ≡ s .size - 1). absurd (b q)) (λ (l : x < s .size - 1). l) (eq-or-lt-of-le (omega arith))
 
       go : Dec (k ≡ getD val (s .size - 1) 0) → getD (swapped o (getD val (s .size - 1) 0) ind) k 0 < s .size - 1
-      go (yes e) = rw (e, l-now) (below (getD ind o 0) (H .in-set) (λ q. f (e ∙ sym (inj o (getD val (s .size - 1) 0) (H .in-universe) l-lt (q ∙ sym l-at)))))
-      go (no g) = rw (k-now k f g) (below (getD ind k 0) (h .in-set) (λ q. g (inj k (getD val (s .size - 1) 0) (h .in-universe) l-lt (q ∙ sym l-at))))
+      go (yes e) = rw (e, x .l-now) (below (getD ind o 0) (H .in-set) (λ q. f (e ∙ sym (inj o (getD val (s .size - 1) 0) (H .in-universe) l-lt (q ∙ sym (x .l-at))))))
+      go (no g) = rw (x .k-now k f g) (below (getD ind k 0) (h .in-set) (λ q. g (inj k (getD val (s .size - 1) 0) (h .in-universe) l-lt (q ∙ sym (x .l-at)))))
 
   pub inverse-left : Inverse (swapped o (getD val (s .size - 1) 0) ind) (swapped (getD ind o 0) (s .size - 1) val) (s .n)
-  inverse-left =
-      subst (λ (x : ℕ). Inverse (swapped o (getD val (s .size - 1) 0) ind) (swapped (getD ind o 0) x val) (s .n)) l-at
-      (exchange-inverse ind val (s .n) (W .inverse) (W .room-ind) (W .room-val) o (getD val (s .size - 1) 0) (H .in-universe) l-lt)
+  inverse-left = x .inverse
 
   pub spans-left : 0 < s .size - 1 → Spans (swapped o (getD val (s .size - 1) 0) ind) (s .n) (s .size - 1) (s .min) (s .max) o
   spans-left h = record {
     o-lt = H .in-universe;
-    o-out = omega (arith, o-now);
+    o-out = omega (arith, x .o-now);
     max-lt = W .bounds some .max-held .in-universe;
     low = λ k x. W .bounds some .least k (left-held k x);
     high = λ k x. W .bounds some .most k (left-held k x);

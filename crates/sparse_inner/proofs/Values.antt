@@ -5,16 +5,12 @@ use Prim.Native.Nat.{ℕ, zero, suc, _+_, _≤_, _<_}
 use native.Mathlib.Numerals.{add-one}
 use native.Mathlib.Omega.{arith}
 use lib.IntN.{pos}
-use lib.ListN.{length, getD, take, drop, drop-of-length-le}
+use lib.ListN.{length, getD, take, drop, drop-of-length-le, length-map}
 use lib.Seq.{drop-cons, length-take-le, getD-take}
 use mir.Syntax.{w32}
 use mir.Val.{SFits}
 use Rattle.sparse_inner.proofs.Checks.{value-fits}
 use Rattle.sparse_inner.specs.Set.{Full, WellF, valueAt, setOf}
-
-length-map : {A B : Type 0} (g : A → B) (l : List A) → length (map g l) ≡ length l
-length-map g [] = refl
-length-map g (x ∷ l) = ap suc (length-map g l)
 
 getD-map : {A B : Type 0} (g : A → B) (l : List A) (k : ℕ) (d : A) (e : B) → k < length l → getD (map g l) k e ≡ g (getD l k d)
 getD-map g [] k d e h = absurd (omega arith)
@@ -25,7 +21,7 @@ module _ (f : Full) (h : f .set .size ≤ length (f .val)) where
   -- the size is the number of held values
   pub length-set : length (setOf f) ≡ f .set .size
   unfolding setOf
-  length-set = length-map (valueAt (f .set)) (take (f .set .size) (f .val)) ∙ length-take-le (f .set .size) (f .val) h
+  length-set = length-map (take (f .set .size) (f .val)) (valueAt (f .set)) ∙ length-take-le (f .set .size) (f .val) h
 
   -- the value in a held cell
   pub cell-is : (k : ℕ) → k < f .set .size → getD (setOf f) k (pos 0) ≡ valueAt (f .set) (getD (f .val) k 0)

@@ -17,19 +17,11 @@ use Rattle.rules.specs.Sets.{same}
 use Rattle.order.proofs.Orders.{not-yes, length-swapped}
 use Rattle.sparse_inner.specs.Set.{Full, heldB, WellF, placeIn, isHeld}
 use Rattle.sparse_inner.specs.Change.{holdsAt, dropAt, dropWhere, dropRun, emptied, alone, onlyAt, fromCut, underCut}
-use Rattle.sparse_inner.proofs.Sets.{held-of, of-held}
+use Rattle.rules.proofs.Tests.{and-false}
+use Rattle.sparse_inner.proofs.Sets.{held-of, of-held, and-true}
 use Rattle.sparse_inner.proofs.Only.{only-o, o-held}
 use Rattle.sparse_inner.proofs.Runs.{Frame, drop-holds, drop-frame, hold-of, where-well, where-frame, low-idle, high-idle}
 use Rattle.sparse_laws.proofs.Held.{same-place}
-
--- ---- Bool
-and-false : (b : Bool) → b && false ≡ false
-and-false true = refl
-and-false false = refl
-
-and-true : (b : Bool) → b && true ≡ b
-and-true true = refl
-and-true false = refl
 
 -- a test on offsets that agrees with one on values wherever a value is held
 pub by-value : (f g : Full) (o : ℕ → Bool) (v : ℤ → Bool) → Frame f g → ((k : ℕ) → holdsAt g k ≡ holdsAt f k && o k)

@@ -19,7 +19,8 @@ use Rattle.offset.specs.Universe.{place-value, place-range}
 use Rattle.order.specs.Order.{counted}
 use Rattle.order.proofs.Counted.{counted-at}
 use Rattle.rules.specs.Sets.{Chutes, has}
-use Rattle.rules.proofs.Tests.{is-true, true-is}
+use Rattle.rules.proofs.Tests.{is-true, true-is, and-false}
+use Rattle.sparse_inner.proofs.Sets.{and-true}
 use Rattle.sparse_inner.specs.Set.{Full, heldB, WellF, placeIn, valueAt, isHeld}
 use Rattle.sparse_inner.specs.Change.{holdsAt, dropWhere, dropAt}
 use Rattle.sparse_inner.proofs.Runs.{drop-holds, where-well, where-frame}
@@ -41,11 +42,7 @@ filled-holds lo n ind val R z = go (ltb (placeOf n (z -ℤ lo)) n) refl
 -- the absent ones dropped
 where-holds : (p : ℕ → Bool) (f : Full) (k : ℕ) → WellF f → (x : ℕ) → holdsAt (dropWhere p f 0 k) x ≡ holdsAt f x && not (ltb x k && p x)
 unfolding dropWhere
-where-holds p f zero W x = sym (rw (le-ltb x 0 (omega arith)) (all (holdsAt f x)))
-  where
-    all : (b : Bool) → b && true ≡ b
-    all true = refl
-    all false = refl
+where-holds p f zero W x = sym (rw (le-ltb x 0 (omega arith)) (and-true (holdsAt f x)))
 where-holds p f (suc k) W x =
     let z : 0 + k ≡ k = omega arith in
     (λ i. holdsAt (cond (p (z i)) (dropAt (dropWhere p f 0 k) (z i)) (dropWhere p f 0 k)) x) ∙ go (p k) refl (where-holds p f k W x)
@@ -58,24 +55,12 @@ where-holds p f (suc k) W x =
     at false b q d = refl
     at true true q (yes e) = rw (le-ltb x k (omega arith), lt-ltb x (suc k) (omega arith), ap p e ∙ q, eq-eqb x k e)
     at true false q (yes e) = rw (le-ltb x k (omega arith), lt-ltb x (suc k) (omega arith), ap p e ∙ q)
-    at true true q (no g) = rw (below g (decLe x k), ne-eqb x k g) (all (not (ltb x (suc k) && p x)))
-      where
-        all : (b : Bool) → b && true ≡ b
-        all true = refl
-        all false = refl
-    at true false q (no g) = rw (below g (decLe x k)) (all (not (ltb x (suc k) && p x)))
-      where
-        all : (b : Bool) → b && true ≡ b
-        all true = refl
-        all false = refl
-
-    all : (b : Bool) → b && true ≡ b
-    all true = refl
-    all false = refl
+    at true true q (no g) = rw (below g (decLe x k), ne-eqb x k g) (and-true (not (ltb x (suc k) && p x)))
+    at true false q (no g) = rw (below g (decLe x k)) (and-true (not (ltb x (suc k) && p x)))
 
     go : (b : Bool) → p k ≡ b → holdsAt (dropWhere p f 0 k) x ≡ holdsAt f x && not (ltb x k && p x) → holdsAt (cond b (dropAt (dropWhere p f 0 k) k) (dropWhere p f 0 k)) x ≡ holdsAt f x && not (ltb x (suc k) && p x)
     go true q ih = drop-holds (dropWhere p f 0 k) k (where-well p f 0 k W) x ∙ ap (λ (b : Bool). b && not (eqb x k)) ih ∙ at (holdsAt f x) true q (ℕ-discrete x k)
-    go false q ih = ih ∙ sym (all (holdsAt f x && not (ltb x k && p x))) ∙ at (holdsAt f x) false q (ℕ-discrete x k)
+    go false q ih = ih ∙ sym (and-true (holdsAt f x && not (ltb x k && p x))) ∙ at (holdsAt f x) false q (ℕ-discrete x k)
 
 not-not : (b : Bool) → not (not b) ≡ b
 not-not true = refl
@@ -98,8 +83,4 @@ from-values-holds v vs ind val R W z =
   where
     go : (b : Bool) → has z (v ∷ vs) ≡ b → (leZ (smallestOf (v ∷ vs)) z && leZ z (largestOf (v ∷ vs))) && b ≡ b
     go true e = rw (is-true (leZ (smallestOf (v ∷ vs)) z) (smallest-least v vs z (true-is e)), is-true (leZ z (largestOf (v ∷ vs))) (largest-most v vs z (true-is e)))
-    go false e = none (leZ (smallestOf (v ∷ vs)) z && leZ z (largestOf (v ∷ vs)))
-      where
-        none : (b : Bool) → b && false ≡ false
-        none true = refl
-        none false = refl
+    go false e = and-false (leZ (smallestOf (v ∷ vs)) z && leZ z (largestOf (v ∷ vs)))

@@ -13,10 +13,10 @@ use Rattle.offset.specs.Places.{placeOf}
 use Rattle.order.proofs.Orders.{not-yes, length-swapped}
 use Rattle.rules.specs.Sets.{Chutes, has, same, keep, every, Within}
 use Rattle.rules.proofs.SetLaws.{has-keep, has-head, has-tail, has-cons, same→eq, covers, same-size}
-use Rattle.rules.proofs.Tests.{true-is, and-left, and-right, and-both}
+use Rattle.rules.proofs.Tests.{true-is, and-left, and-right, and-both, or-false, or-true}
 use Rattle.sparse_inner.specs.Set.{Full, Held, heldB, WellF, placeIn, setOf, isHeld}
 use Rattle.sparse_inner.specs.Change.{holdsAt, dropAt, added, addAt, resized}
-use Rattle.sparse_inner.proofs.Sets.{true-false, held-of, of-held}
+use Rattle.sparse_inner.proofs.Sets.{true-false, and-true, held-of, of-held}
 use Rattle.sparse_inner.proofs.Drops.{drop-at-well}
 use Rattle.sparse_inner.proofs.Adds.{add-at-well, new-held, old-held, held-before, not-held}
 use Rattle.sparse_inner.proofs.Runs.{Frame, frame-same, frame-trans, drop-frame, hold-of, of-hold}
@@ -42,11 +42,7 @@ not-or false b c = refl
 
 pub each-holds : (f : Full) (vs : Chutes) → WellF f → (z : ℤ) → isHeld (dropEach f vs) z ≡ isHeld f z && not (has z vs)
 unfolding dropEach
-each-holds f [] W z = sym (all (isHeld f z))
-  where
-    all : (b : Bool) → b && true ≡ b
-    all true = refl
-    all false = refl
+each-holds f [] W z = sym (and-true (isHeld f z))
 each-holds f (v ∷ vs) W z =
     each-holds (dropAt f (placeIn (f .set) v)) vs (drop-at-well f (placeIn (f .set) v) W) z
     ∙ ap (λ (b : Bool). b && not (has z vs)) (remove-holds f v W z) ∙ not-or (isHeld f z) (same z v) (has z vs)
@@ -87,14 +83,6 @@ add-holds : (f : Full) (o : ℕ) → WellF f → (k : ℕ) → holdsAt (addAt f 
 unfolding addAt added resized
 add-holds f o W k = go (ltb o (f .set .n)) refl (holdsAt f o) refl (ℕ-discrete k o)
   where
-    or-false : (b : Bool) → b || false ≡ b
-    or-false true = refl
-    or-false false = refl
-
-    or-true : (b : Bool) → b || true ≡ true
-    or-true true = refl
-    or-true false = refl
-
     go : (a : Bool) → ltb o (f .set .n) ≡ a → (b : Bool) → holdsAt f o ≡ b → Dec (k ≡ o) → holdsAt (cond a (cond b f (added f o)) f) k ≡ holdsAt f k || (a && eqb k o)
     go false p b q d = sym (or-false (holdsAt f k))
     go true p true q (yes e) = rw (eq-eqb k o e) (ap (holdsAt f) e ∙ q ∙ sym (or-true (holdsAt f k)))
@@ -153,11 +141,7 @@ added-well f (v ∷ vs) W = added-well (addAt f (placeIn (f .set) v)) vs (add-at
 
 added-holds : (f : Full) (vs : Chutes) → WellF f → (z : ℤ) → isHeld (addEach f vs) z ≡ isHeld f z || (has z vs && inside f z)
 unfolding addEach
-added-holds f [] W z = sym (none (isHeld f z))
-  where
-    none : (b : Bool) → b || false ≡ b
-    none true = refl
-    none false = refl
+added-holds f [] W z = sym (or-false (isHeld f z))
 added-holds f (v ∷ vs) W z =
     added-holds (addAt f (placeIn (f .set) v)) vs (add-at-well f (placeIn (f .set) v) W) z
     ∙ (λ i. one-holds f v W z i || (has z vs && inside-same f (addAt f (placeIn (f .set) v)) (add-frame f (placeIn (f .set) v)) z i))

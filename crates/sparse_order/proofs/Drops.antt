@@ -1,7 +1,7 @@
 -- What drops leave of the order: the last held value takes the place of each dropped one, one after the other. Assumes nothing.
 use mathlib.Core.Path.{_≡_, refl, sym, ap, _∙_}
 use mathlib.Core.Bool.{Bool, true, false, cond}
-use mathlib.Core.List.{List, [], _∷_, _++_, map}
+use mathlib.Core.List.{List, [], _∷_, _++_, map, append-nil}
 use Prim.Native.Nat.{ℕ, zero, suc, _+_, _-_, _≤_, _<_}
 use native.Mathlib.Omega.{arith}
 use lib.IntN.{ℤ, pos, _+ℤ_, _-ℤ_}
@@ -20,7 +20,7 @@ use Rattle.sparse_inner.proofs.Values.{cell-is, well-room}
 use Rattle.sparse_pairs.specs.Calls.{dropEach}
 use Rattle.sparse_laws.proofs.Held.{members, size-is}
 use Rattle.sparse_order.specs.Order.{swapOut, swapOuts, justOf, toFront, cellsOf}
-use Rattle.sparse_order.proofs.Lists.{map-take, map-set, map-append, front-at, swap-at, swap-none, outs-append, append-nil}
+use Rattle.sparse_order.proofs.Lists.{map-take, map-set, map-append, front-at, swap-at, swap-none, outs-append}
 
 -- ---- a held value stands in the cell that ind names, and in no other
 module _ (f : Full) (W : WellF f) (v : ℤ) (H : Held (f .ind) (f .set .n) (f .set .size) (placeIn (f .set) v)) where

@@ -28,10 +28,6 @@ pub map-append : {A B : Type 0} (g : A → B) (l m : List A) → map g (l ++ m) 
 map-append g [] m = refl
 map-append {A} {B} g (x ∷ l) m = ap (λ (u : List B). g x ∷ u) (map-append g l m)
 
-pub append-nil : (l : Chutes) → l ++ [] ≡ l
-append-nil [] = refl
-append-nil (x ∷ l) = ap (λ (u : Chutes). x ∷ u) (append-nil l)
-
 -- ---- taking one value out
 lead : (y : ℤ) (l : Chutes) (n : ℕ) → n ≡ length l → lastFirst l ≡ set (take n (y ∷ l)) 0 (getD (y ∷ l) n (pos 0))
 lead y [] n e = rw e
@@ -88,14 +84,6 @@ keep-same p q (x ∷ l) h = go (p x) (q x) (h x (has-head x l)) (keep-same p q l
   where
     go : (a b : Bool) → a ≡ b → keep p l ≡ keep q l → cond a (x ∷ keep p l) (keep p l) ≡ cond b (x ∷ keep q l) (keep q l)
     go a b e ih = λ i. cond (e i) (x ∷ ih i) (ih i)
-
-pub keep-append : (p : ℤ → Bool) (a b : Chutes) → keep p (a ++ b) ≡ keep p a ++ keep p b
-keep-append p [] b = refl
-keep-append p (x ∷ a) b = go (p x) (keep-append p a b)
-  where
-    go : (t : Bool) → keep p (a ++ b) ≡ keep p a ++ keep p b → cond t (x ∷ keep p (a ++ b)) (keep p (a ++ b)) ≡ cond t (x ∷ keep p a) (keep p a) ++ keep p b
-    go true e = ap (λ (l : Chutes). x ∷ l) e
-    go false e = e
 
 pub keep-different : (p : ℤ → Bool) (l : Chutes) → Different l → Different (keep p l)
 keep-different p [] D = tt

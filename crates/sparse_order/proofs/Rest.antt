@@ -3,7 +3,7 @@
 use mathlib.Core.Path.{_≡_, refl, sym, ap, _∙_, subst}
 use mathlib.Core.Logic.{⊎-elim}
 use mathlib.Core.Bool.{Bool, true, false, not, cond, _&&_}
-use mathlib.Core.List.{List, [], _∷_, _++_, map}
+use mathlib.Core.List.{List, [], _∷_, _++_, map, append-nil}
 use Prim.Native.Nat.{ℕ, zero, suc, _+_, _-_, _≤_, _<_}
 use native.Mathlib.Nat.{eq-or-lt-of-le}
 use native.Mathlib.Numerals.{add-one}
@@ -25,13 +25,15 @@ use Rattle.sparse_inner.specs.Change.{holdsAt, resized, dropped, dropAt, dropWh
 use Rattle.sparse_inner.proofs.Drops.{drop-held, drop-none, drop-at-well}
 use Rattle.sparse_inner.proofs.Runs.{Frame, hold-of, drop-holds, where-well, where-frame}
 use Rattle.sparse_inner.proofs.Adds.{add-at-well, not-held}
+use Rattle.sparse_inner.proofs.Sets.{and-true}
+use Rattle.sparse_pairs.proofs.Each.{keep-append}
 use Rattle.sparse_pairs.specs.Calls.{dropEach, addEach}
 use Rattle.sparse_laws.proofs.Held.{members}
 use Rattle.sparse_laws.proofs.Drops.{remove-holds}
 use Rattle.sparse_laws.proofs.Pairs.{inside}
 use Rattle.sparse_order.specs.Order.{onto, instead, toFront, swapIn, swapIns, cellsOf}
 use Rattle.sparse_order.specs.Walk.{restOf}
-use Rattle.sparse_order.proofs.Lists.{map-set, map-append, instead-at, keep-same, keep-append, append-nil}
+use Rattle.sparse_order.proofs.Lists.{map-set, map-append, instead-at, keep-same}
 use Rattle.sparse_order.proofs.Drops.{picked, alone-cells}
 use Rattle.sparse_order.proofs.Adds.{fresh, still-new}
 
@@ -101,14 +103,10 @@ unfolding dropWhere
 where-later p f from zero W x h = refl
 where-later p f from (suc k) W x h = go (p (from + k)) (where-later p f from k W x (omega arith))
   where
-    all : (b : Bool) → b && true ≡ b
-    all true = refl
-    all false = refl
-
     go : (b : Bool) → holdsAt (dropWhere p f from k) x ≡ holdsAt f x → holdsAt (cond b (dropAt (dropWhere p f from k) (from + k)) (dropWhere p f from k)) x ≡ holdsAt f x
     go true ih =
         drop-holds (dropWhere p f from k) (from + k) (where-well p f from k W) x
-        ∙ ap (λ (b : Bool). holdsAt (dropWhere p f from k) x && not b) (ne-eqb x (from + k) (λ e. omega arith)) ∙ all (holdsAt (dropWhere p f from k) x) ∙ ih
+        ∙ ap (λ (b : Bool). holdsAt (dropWhere p f from k) x && not b) (ne-eqb x (from + k) (λ e. omega arith)) ∙ and-true (holdsAt (dropWhere p f from k) x) ∙ ih
     go false ih = ih
 
 pub where-rest : (p : ℕ → Bool) (f : Full) (from k : ℕ) → WellF f → from + k ≤ f .set .n → restOf (dropWhere p f from k) ≡ onto (keep (λ z. has z (setOf f)) (picked p (f .set .off) from k)) (restOf f)

@@ -2,7 +2,7 @@
 use mathlib.Core.Path.{_≡_, refl, sym, ap, _∙_}
 use mathlib.Core.Logic.{⊎-elim}
 use mathlib.Core.Bool.{Bool, true, false, not, cond, _&&_}
-use mathlib.Core.List.{[], _∷_, _++_}
+use mathlib.Core.List.{[], _∷_, _++_, append-nil}
 use Prim.Native.Nat.{ℕ, zero, suc, _+_, _-_, _≤_, _<_}
 use native.Mathlib.Decide.{ℕ-discrete}
 use native.Mathlib.Nat.{eq-or-lt-of-le}
@@ -18,9 +18,10 @@ use Rattle.rules.proofs.Tests.{and-false}
 use Rattle.sparse_inner.specs.Set.{Full, WellF, placeIn, setOf, isHeld}
 use Rattle.sparse_inner.specs.Change.{holdsAt, dropWhere, dropRun, emptied, fromCut, underCut}
 use Rattle.sparse_inner.proofs.Runs.{drop-holds, hold-of, where-well, where-less, run-idle, none-held}
+use Rattle.sparse_pairs.proofs.Each.{keep-append}
 use Rattle.sparse_laws.proofs.Held.{members}
 use Rattle.sparse_order.specs.Order.{swapOuts, upFrom}
-use Rattle.sparse_order.proofs.Lists.{keep-append, append-nil, no-member}
+use Rattle.sparse_order.proofs.Lists.{no-member}
 use Rattle.sparse_order.proofs.Drops.{emptied-order, picked, where-order}
 
 -- ---- those of ascending values that a test keeps

@@ -1,7 +1,7 @@
 -- Values dropped or added one after the other, as a loop does it. Assumes nothing.
 use mathlib.Core.Path.{_≡_, refl, sym, ap, _∙_}
 use mathlib.Core.Bool.{Bool, true, false, not, cond, Bool·beq}
-use mathlib.Core.List.{[], _∷_, _++_}
+use mathlib.Core.List.{[], _∷_, _++_, append-nil}
 use Prim.Native.Nat.{ℕ, _+_, _≤_, _<_}
 use native.Mathlib.Numerals.{add-one}
 use native.Mathlib.Omega.{arith}
@@ -49,7 +49,7 @@ pub every-no : (p : ℤ → Bool) (x : ℤ) (u : Chutes) → p x ≡ false → e
 every-no p x u e = rw e
 
 -- ---- values picked into the first cells
-keep-append : (p : ℤ → Bool) (a b : Chutes) → keep p (a ++ b) ≡ keep p a ++ keep p b
+pub keep-append : (p : ℤ → Bool) (a b : Chutes) → keep p (a ++ b) ≡ keep p a ++ keep p b
 keep-append p [] b = refl
 keep-append p (x ∷ a) b = go (p x) (keep-append p a b)
   where
@@ -57,16 +57,12 @@ keep-append p (x ∷ a) b = go (p x) (keep-append p a b)
     go true e = ap (λ (l : Chutes). x ∷ l) e
     go false e = e
 
-nil : (l : Chutes) → l ++ [] ≡ l
-nil [] = refl
-nil (x ∷ l) = ap (λ (u : Chutes). x ∷ u) (nil l)
-
 module _ (p : ℤ → Bool) (u : Chutes) (k : ℕ) (x : ℤ) (h : k < length u) (e : getD u k (pos 0) ≡ x) where
   pub pick-yes : p x ≡ true → keep p (take (k + 1) u) ≡ keep p (take k u) ++ (x ∷ [])
   pick-yes t = ap (keep p) (take-more u k x h e) ∙ keep-append p (take k u) (x ∷ []) ∙ ap (λ (b : Bool). keep p (take k u) ++ cond b (x ∷ []) []) t
 
   pub pick-no : p x ≡ false → keep p (take (k + 1) u) ≡ keep p (take k u)
-  pick-no t = ap (keep p) (take-more u k x h e) ∙ keep-append p (take k u) (x ∷ []) ∙ ap (λ (b : Bool). keep p (take k u) ++ cond b (x ∷ []) []) t ∙ nil (keep p (take k u))
+  pick-no t = ap (keep p) (take-more u k x h e) ∙ keep-append p (take k u) (x ∷ []) ∙ ap (λ (b : Bool). keep p (take k u) ++ cond b (x ∷ []) []) t ∙ append-nil (keep p (take k u))
 
 -- ---- whether a value is wanted
 pub wanted : (b want : Bool) → Bool·beq b want ≡ cond want b (not b)

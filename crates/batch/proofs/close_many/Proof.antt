@@ -37,9 +37,6 @@ capped c =
     (λ w. ap (λ (k : ℕ). take k (a .cs)) (w .1))
     (c .if2 .came)
 
-look-requires : tie.Need-look-requires
-look-requires c κs = search needs
-
 returns : tie.Need-returns
 returns c =
     let s = c .before in
@@ -60,4 +57,4 @@ returns-2 c =
     tally-batch (a .b) (all-cells (j .before .before .before .before .before .before)) (well-here j) (take (a .n) (a .cs)) (r .result) (r .ensures ∙ ap (tallyOf (a .b .count) (untold (a .b .rows))) (capped j))
 
 pub close-many-spec : {M : Type 1} → statement M
-close-many-spec = tie.close (tie.spec look-requires returns close-rows-requires returns-2)
+close-many-spec = tie.close (tie.spec (λ c κs. search needs) returns close-rows-requires returns-2)

@@ -33,12 +33,6 @@ unfolding sizes
 spent {lo} {z} {k} {n} {v} {t} f h e g s =
     ap sizes e ∙ ap (λ (x : ℤ). length (decimal x) + sizes t) (sym (read-value f h g)) ∙ ap (λ (j : ℕ). j + sizes t) (sym s)
 
-loop-holds : tie.Need-loop-holds Inv-loop μ-loop
-loop-holds c = omega arith
-
-is-none-requires : tie.Need-is-none-requires Inv-loop μ-loop
-is-none-requires c κs = search needs
-
 returns : tie.Need-returns Inv-loop μ-loop
 unfolding sizes
 returns c =
@@ -52,9 +46,6 @@ lowest-requires c κs = some (c .before .before .loop .left) (c .before .is-none
 
 value-requires : tie.Need-value-requires Inv-loop μ-loop
 value-requires c κs = c .lowest .ensures .1
-
-size-requires : tie.Need-size-requires Inv-loop μ-loop
-size-requires c κs = search needs
 
 add-sum : tie.Need-add-sum Inv-loop μ-loop
 add-sum c =
@@ -93,12 +84,12 @@ digits-spec =
     (tie.spec
     Inv-loop
     μ-loop
-    loop-holds
-    is-none-requires
+    (λ c. omega arith)
+    (λ c κs. search needs)
     returns
     lowest-requires
     value-requires
-    size-requires
+    (λ c κs. search needs)
     add-sum
     rest-requires
     loop-less

@@ -32,9 +32,6 @@ later c lo = next lo (c .before .before .before .before .before .loop .rest) (c 
 ahead : (c : tie.At-loop Inv-loop μ-loop) (lo : ℤ) → Ahead lo (c .before .before .lowest .result) (valuesOf lo (c .before .rest .result)) 1 (c .loop .last) (valuesOf lo (c .loop .rest)) (c .loop .count)
 ahead c lo = c .loop .inv .2 lo
 
-is-none-requires : tie.Need-is-none-requires Inv-loop μ-loop
-is-none-requires c κs = search needs
-
 returns : tie.Need-returns Inv-loop μ-loop
 returns c = λ lo. run-none (none lo (c .before .before .args .m) (c .before .is-none .ensures) (c .if1 .taken))
 
@@ -51,9 +48,6 @@ loop-holds c =
       omega (arith, ap length (start c (pos 0)), few (pos 0) m (search needs)),
       λ lo. ahead-start lo (c .before .lowest .result) (valuesOf lo (c .rest .result)) 1,
     )
-
-is-none-requires-2 : tie.Need-is-none-requires-2 Inv-loop μ-loop
-is-none-requires-2 c κs = search needs
 
 returns-2 : tie.Need-returns-2 Inv-loop μ-loop
 returns-2 c =
@@ -96,12 +90,12 @@ first-run-spec =
     (tie.spec
     Inv-loop
     μ-loop
-    is-none-requires
+    (λ c κs. search needs)
     returns
     lowest-requires
     rest-requires
     loop-holds
-    is-none-requires-2
+    (λ c κs. search needs)
     returns-2
     lowest-requires-2
     add-if3

@@ -69,9 +69,6 @@ second-put c =
 slice-write-out : tie.Need-slice-write-out
 slice-write-out c = omega (arith, asked (c .before))
 
-first-run-requires : tie.Need-first-run-requires
-first-run-requires c κs = search needs
-
 put-values-requires : tie.Need-put-values-requires
 put-values-requires c κs =
     let s = c .before .before .before in
@@ -82,9 +79,6 @@ slice-write-out-2 : tie.Need-slice-write-out-2
 slice-write-out-2 c =
     let p = first-put (c .before .before) in
     omega (arith, asked (c .before .before .before .before .before .before), ap (λ (x : Put). x .next) (p .0))
-
-count-requires : tie.Need-count-requires
-count-requires c κs = search needs
 
 add-put-values : tie.Need-add-put-values
 add-put-values c =
@@ -124,10 +118,10 @@ put-text-spec =
     tie.close
     (tie.spec
     slice-write-out
-    first-run-requires
+    (λ c κs. search needs)
     put-values-requires
     slice-write-out-2
-    count-requires
+    (λ c κs. search needs)
     add-put-values
     put-values-requires-2
     slice-write-out-3

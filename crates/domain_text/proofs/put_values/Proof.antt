@@ -120,12 +120,6 @@ rest-requires-2 c κs =
     let t = c .before .before .before .before .before .before .before .loop in
     filled (low s) (t .left) (omega (arith, t .inv .2, c .before .before .before .before .before .before .loop-test .taken))
 
-add-i : tie.Need-add-i Inv-loop μ-loop
-add-i c = search needs
-
-loop-less : tie.Need-loop-less Inv-loop μ-loop
-loop-less c = omega arith
-
 loop-again : tie.Need-loop-again Inv-loop μ-loop
 loop-again c =
     let s = c .before .before .before .before .before .before .before .before .before .before .before .before .before .before .before .before .before .before in
@@ -179,8 +173,8 @@ put-values-spec =
     add-put
     put-requires-2
     rest-requires-2
-    add-i
-    loop-less
+    (λ c. search needs)
+    (λ c. omega arith)
     loop-again
     same-length
     returns-2)

@@ -37,29 +37,14 @@ counts c =
       few = text-few lo (s .args .m) (s .fits .min) (search needs);
     }
 
-count-requires : tie.Need-count-requires
-count-requires c κs = search needs
-
-first-run-requires : tie.Need-first-run-requires
-first-run-requires c κs = search needs
-
-digits-requires : tie.Need-digits-requires
-digits-requires c κs = search needs
-
 add-result : tie.Need-add-result
 add-result c = let k = counts c in omega arith
-
-commas-requires : tie.Need-commas-requires
-commas-requires c κs = search needs
 
 add-result-2 : tie.Need-add-result-2
 add-result-2 c = let k = counts (c .before) in omega (arith, c .commas .ensures)
 
 sub-commas : tie.Need-sub-commas
 sub-commas c = let k = counts (c .before .before) in omega arith
-
-commas-requires-2 : tie.Need-commas-requires-2
-commas-requires-2 c κs = search needs
 
 add-result-3 : tie.Need-add-result-3
 add-result-3 c = let k = counts (c .before .before .before) in omega (arith, c .before .before .commas .ensures, c .commas2 .ensures)
@@ -71,13 +56,13 @@ pub text-size-spec : {M : Type 1} → statement M
 text-size-spec =
     tie.close
     (tie.spec
-    count-requires
-    first-run-requires
-    digits-requires
+    (λ c κs. search needs)
+    (λ c κs. search needs)
+    (λ c κs. search needs)
     add-result
-    commas-requires
+    (λ c κs. search needs)
     add-result-2
     sub-commas
-    commas-requires-2
+    (λ c κs. search needs)
     add-result-3
     returns)

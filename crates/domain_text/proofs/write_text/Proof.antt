@@ -45,24 +45,12 @@ room text cells {m} e h p =
     let k : m ≡ text ++ drop (length text) cells = p ∙ put-cells text cells 0 (omega arith) ∙ ap (λ (j : ℕ). text ++ drop j cells) (zero-add (length text)) in
     rw (le-leb (length text) (length cells) (omega arith)) (cc)
 
-is-well-requires : tie.Need-is-well-requires
-is-well-requires c κs = search needs
-
-text-size-requires : tie.Need-text-size-requires
-text-size-requires c κs = search needs
-
 returns : tie.Need-returns
 returns c =
     let s = c .before .before .before .before .before .before in
     let w = c .before .before .before .before in
     no-room (shown (s .args .d)) (now (s .args .out)) (c .before .text-size .ensures) (c .if2 .taken)
     ∙ sound (s .args .d) (now (s .args .out)) (search needs) (w .is-well .ensures) (c .before .before .before .if1 .taken)
-
-put-text-requires : tie.Need-put-text-requires
-put-text-requires c κs = search needs
-
-same-length : tie.Need-same-length
-same-length c = search needs
 
 returns-2 : tie.Need-returns-2
 returns-2 c =
@@ -78,10 +66,10 @@ pub write-text-spec : {M : Type 1} → statement M
 write-text-spec =
     tie.close
     (tie.spec
-    is-well-requires
-    text-size-requires
+    (λ c κs. search needs)
+    (λ c κs. search needs)
     returns
-    put-text-requires
-    same-length
+    (λ c κs. search needs)
+    (λ c. search needs)
     returns-2
     returns-3)

@@ -9,12 +9,6 @@ use borrow.Author.Needs.{needs}
 use Rattle.reply.proofs.chute.Statement.{statement}
 use Rattle.reply.proofs.chute.Tie as tie
 
-half-of-requires : tie.Need-half-of-requires
-half-of-requires c κs = search needs
-
-pack-requires : tie.Need-pack-requires
-pack-requires c κs = search needs
-
 returns : tie.Need-returns
 unfolding coded
 returns c =
@@ -22,4 +16,4 @@ returns c =
     c .pack .ensures ∙ ap packed (c .before .half-of .ensures .0 ∙ ap half (read32 f))
 
 pub chute-spec : {M : Type 1} → statement M
-chute-spec = tie.close (tie.spec half-of-requires pack-requires returns)
+chute-spec = tie.close (tie.spec (λ c κs. search needs) (λ c κs. search needs) returns)

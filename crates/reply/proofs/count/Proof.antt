@@ -4,12 +4,9 @@ use borrow.Author.Needs.{needs}
 use Rattle.reply.proofs.count.Statement.{statement}
 use Rattle.reply.proofs.count.Tie as tie
 
-pack-requires : tie.Need-pack-requires
-pack-requires c κs = search needs
-
 returns : tie.Need-returns
 unfolding coded
 returns c = c .pack .ensures
 
 pub count-spec : {M : Type 1} → statement M
-count-spec = tie.close (tie.spec pack-requires returns)
+count-spec = tie.close (tie.spec (λ c κs. search needs) returns)

@@ -7,18 +7,6 @@ use borrow.Author.Needs.{needs}
 use Rattle.reply.proofs.counted.Statement.{statement}
 use Rattle.reply.proofs.counted.Tie as tie
 
-enum-known-c : tie.Need-enum-known-c
-enum-known-c c = search needs
-
-refusal-requires : tie.Need-refusal-requires
-refusal-requires c κs = search needs
-
-enum-known-c-2 : tie.Need-enum-known-c-2
-enum-known-c-2 c = search needs
-
-count-requires : tie.Need-count-requires
-count-requires c κs = search needs
-
 returns : tie.Need-returns
 unfolding coded
 returns c = c .refusal .ensures ∙ ap (λ (x : Counted). coded (countOf x)) (sym (c .before .before .c .given .1))
@@ -30,4 +18,4 @@ returns-2 c = c .count .ensures ∙ ap (λ (x : Counted). coded (countOf x)) (sy
 pub counted-spec : {M : Type 1} → statement M
 counted-spec =
     tie.close
-    (tie.spec enum-known-c refusal-requires enum-known-c-2 count-requires returns returns-2)
+    (tie.spec (λ c. search needs) (λ c κs. search needs) (λ c. search needs) (λ c κs. search needs) returns returns-2)

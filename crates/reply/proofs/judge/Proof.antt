@@ -14,9 +14,6 @@ words c i = omega (arith, c .shared-slice-known .given i)
 returns : tie.Need-returns
 returns c = (rw (lt-ltb _ _ (c .if1 .taken)), words (c .before))
 
-is-fitting-requires : tie.Need-is-fitting-requires
-is-fitting-requires c κs = search needs
-
 returns-2 : tie.Need-returns-2
 returns-2 c = (rw (le-ltb _ _ (c .before .before .if1 .left), fails (c .before .is-fitting .ensures) (c .if2 .taken)), words (c .before .before .before))
 
@@ -24,4 +21,4 @@ returns-3 : tie.Need-returns-3
 returns-3 c = (rw (le-ltb _ _ (c .before .before .if1 .left), passes (c .before .is-fitting .ensures) (c .if2 .left)), words (c .before .before .before))
 
 pub judge-spec : {M : Type 1} → statement M
-judge-spec = tie.close (tie.spec returns is-fitting-requires returns-2 returns-3)
+judge-spec = tie.close (tie.spec returns (λ c κs. search needs) returns-2 returns-3)

@@ -7,18 +7,6 @@ use borrow.Author.Needs.{needs}
 use Rattle.reply.proofs.pair.Statement.{statement}
 use Rattle.reply.proofs.pair.Tie as tie
 
-enum-known-p : tie.Need-enum-known-p
-enum-known-p c = search needs
-
-refusal-requires : tie.Need-refusal-requires
-refusal-requires c κs = search needs
-
-enum-known-p-2 : tie.Need-enum-known-p-2
-enum-known-p-2 c = search needs
-
-both-requires : tie.Need-both-requires
-both-requires c κs = search needs
-
 returns : tie.Need-returns
 unfolding coded
 returns c = c .refusal .ensures ∙ ap (λ (x : Pair). coded (pairOf x)) (sym (c .before .before .p .given .1))
@@ -30,4 +18,4 @@ returns-2 c = c .both .ensures ∙ sym (ap (λ (x : Pair). coded (pairOf x)) (c 
 pub pair-spec : {M : Type 1} → statement M
 pair-spec =
     tie.close
-    (tie.spec enum-known-p refusal-requires enum-known-p-2 both-requires returns returns-2)
+    (tie.spec (λ c. search needs) (λ c κs. search needs) (λ c. search needs) (λ c κs. search needs) returns returns-2)

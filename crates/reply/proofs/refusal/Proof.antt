@@ -8,18 +8,6 @@ use borrow.Author.Needs.{needs}
 use Rattle.reply.proofs.refusal.Statement.{statement}
 use Rattle.reply.proofs.refusal.Tie as tie
 
-number-requires : tie.Need-number-requires
-number-requires c κs = search needs
-
-place-requires : tie.Need-place-requires
-place-requires c κs = search needs
-
-cast-result : tie.Need-cast-result
-cast-result c = search needs
-
-pack-requires : tie.Need-pack-requires
-pack-requires c κs = search needs
-
 add-result : tie.Need-add-result
 add-result c =
     let n = c .before .before .number in
@@ -36,4 +24,4 @@ returns c =
 pub refusal-spec : {M : Type 1} → statement M
 refusal-spec =
     tie.close
-    (tie.spec number-requires place-requires cast-result pack-requires add-result returns)
+    (tie.spec (λ c κs. search needs) (λ c κs. search needs) (λ c. search needs) (λ c κs. search needs) add-result returns)

@@ -25,50 +25,8 @@ made-path : (ds ds′ : List Destination) (dn dn′ : ℕ) (cs cs′ : List Clos
 made-path ds ds′ dn dn′ cs cs′ cn cn′ ls ls′ ln ln′ ids ids′ e p q r s t u v =
     λ i. record { parsed = record { destinations = p i; dn = q i; closings = r i; cn = s i; lists = t i; ln = u i; ids = v i }; end = At e }
 
-no-sheet-requires : tie.Need-no-sheet-requires
-no-sheet-requires c κs = search needs
-
 returns : tie.Need-returns
 returns c = c .no-sheet .ensures ∙ ap readOf (sym (sheet-long (now (c .before .before .before .args .s)) (omega arith)))
-
-read-destinations-requires : tie.Need-read-destinations-requires
-read-destinations-requires c κs = search needs
-
-enum-known-after-d : tie.Need-enum-known-after-d
-enum-known-after-d c = search needs
-
-no-sheet-requires-2 : tie.Need-no-sheet-requires-2
-no-sheet-requires-2 c κs = search needs
-
-enum-known-after-d-2 : tie.Need-enum-known-after-d-2
-enum-known-after-d-2 c = search needs
-
-read-closings-requires : tie.Need-read-closings-requires
-read-closings-requires c κs = search needs
-
-enum-known-after-c : tie.Need-enum-known-after-c
-enum-known-after-c c = search needs
-
-no-sheet-requires-3 : tie.Need-no-sheet-requires-3
-no-sheet-requires-3 c κs = search needs
-
-enum-known-after-c-2 : tie.Need-enum-known-after-c-2
-enum-known-after-c-2 c = search needs
-
-read-lists-requires : tie.Need-read-lists-requires
-read-lists-requires c κs = search needs
-
-enum-known-after-l : tie.Need-enum-known-after-l
-enum-known-after-l c = search needs
-
-no-sheet-requires-4 : tie.Need-no-sheet-requires-4
-no-sheet-requires-4 c κs = search needs
-
-enum-known-after-l-2 : tie.Need-enum-known-after-l-2
-enum-known-after-l-2 c = search needs
-
-no-sheet-requires-5 : tie.Need-no-sheet-requires-5
-no-sheet-requires-5 c κs = search needs
 
 returns-2 : tie.Need-returns-2
 returns-2 c =
@@ -142,21 +100,21 @@ pub read-sheet-spec : {M : Type 1} → statement M
 read-sheet-spec =
     tie.close
     (tie.spec
-    no-sheet-requires
+    (λ c κs. search needs)
     returns
-    read-destinations-requires
-    enum-known-after-d
-    no-sheet-requires-2
-    enum-known-after-d-2
-    read-closings-requires
-    enum-known-after-c
-    no-sheet-requires-3
-    enum-known-after-c-2
-    read-lists-requires
-    enum-known-after-l
-    no-sheet-requires-4
-    enum-known-after-l-2
-    no-sheet-requires-5
+    (λ c κs. search needs)
+    (λ c. search needs)
+    (λ c κs. search needs)
+    (λ c. search needs)
+    (λ c κs. search needs)
+    (λ c. search needs)
+    (λ c κs. search needs)
+    (λ c. search needs)
+    (λ c κs. search needs)
+    (λ c. search needs)
+    (λ c κs. search needs)
+    (λ c. search needs)
+    (λ c κs. search needs)
     returns-2
     returns-3
     returns-4

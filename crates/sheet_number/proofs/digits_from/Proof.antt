@@ -23,20 +23,8 @@ abbrev μ-loop : tie.MeasureT-loop
 loop-holds : tie.Need-loop-holds Inv-loop μ-loop
 loop-holds c = (0, refl, refl, refl)
 
-shared-slice-read-b : tie.Need-shared-slice-read-b Inv-loop μ-loop
-shared-slice-read-b c = search needs
-
-is-digit-requires : tie.Need-is-digit-requires Inv-loop μ-loop
-is-digit-requires c κs = search needs
-
 push-requires : tie.Need-push-requires Inv-loop μ-loop
 push-requires c κs = sym (c .before .is-digit .ensures) ∙ c .if1 .taken
-
-add-p : tie.Need-add-p Inv-loop μ-loop
-add-p c = search needs
-
-loop-less : tie.Need-loop-less Inv-loop μ-loop
-loop-less c = omega arith
 
 loop-again : tie.Need-loop-again Inv-loop μ-loop
 loop-again c =
@@ -81,11 +69,11 @@ digits-from-spec =
     Inv-loop
     μ-loop
     loop-holds
-    shared-slice-read-b
-    is-digit-requires
+    (λ c. search needs)
+    (λ c κs. search needs)
     push-requires
-    add-p
-    loop-less
+    (λ c. search needs)
+    (λ c. omega arith)
     loop-again
     returns
     returns-2

@@ -5,9 +5,6 @@ use Rattle.sheet_number.specs.Number.{inRun}
 use Rattle.sheet_number.proofs.in_run.Statement.{statement}
 use Rattle.sheet_number.proofs.in_run.Tie as tie
 
-is-digit-requires : tie.Need-is-digit-requires
-is-digit-requires c κs = search needs
-
 returns : tie.Need-returns
 unfolding inRun
 returns c = simp (eq-eqb _ _ (c .if1 .taken))
@@ -17,4 +14,4 @@ unfolding inRun
 returns-2 c = simp (ne-eqb _ _ (c .before .if1 .left)) (c .is-digit .ensures)
 
 pub in-run-spec : {M : Type 1} → statement M
-in-run-spec = tie.close (tie.spec is-digit-requires returns returns-2)
+in-run-spec = tie.close (tie.spec (λ c κs. search needs) returns returns-2)

@@ -12,15 +12,6 @@ use Rattle.sheet_number.proofs.FirstByte.{capped-none}
 use Rattle.sheet_number.proofs.positive_from.Statement.{statement}
 use Rattle.sheet_number.proofs.positive_from.Tie as tie
 
-shared-slice-read-is-lead : tie.Need-shared-slice-read-is-lead
-shared-slice-read-is-lead c = search needs
-
-is-lead-requires : tie.Need-is-lead-requires
-is-lead-requires c κs = search needs
-
-digits-from-requires : tie.Need-digits-from-requires
-digits-from-requires c κs = search needs
-
 returns : tie.Need-returns
 returns c =
     let a = c .before .before .before .before .before .before .args in
@@ -42,9 +33,9 @@ pub positive-from-spec : {M : Type 1} → statement M
 positive-from-spec =
     tie.close
     (tie.spec
-    shared-slice-read-is-lead
-    is-lead-requires
-    digits-from-requires
+    (λ c. search needs)
+    (λ c κs. search needs)
+    (λ c κs. search needs)
     returns
     returns-2
     returns-3)

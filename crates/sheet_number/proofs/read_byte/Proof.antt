@@ -6,12 +6,6 @@ use Rattle.sheet_number.proofs.Readers.{byte-there, byte-other, byte-en
 use Rattle.sheet_number.proofs.read_byte.Statement.{statement}
 use Rattle.sheet_number.proofs.read_byte.Tie as tie
 
-shared-slice-read-if2 : tie.Need-shared-slice-read-if2
-shared-slice-read-if2 c = search needs
-
-add-t11 : tie.Need-add-t11
-add-t11 c = search needs
-
 returns : tie.Need-returns
 returns c =
     let a = c .before .before .before .args in
@@ -28,4 +22,4 @@ returns-3 c =
     byte-ended (now (a .s)) (a .at) (a .b) (omega arith)
 
 pub read-byte-spec : {M : Type 1} → statement M
-read-byte-spec = tie.close (tie.spec shared-slice-read-if2 add-t11 returns returns-2 returns-3)
+read-byte-spec = tie.close (tie.spec (λ c. search needs) (λ c. search needs) returns returns-2 returns-3)

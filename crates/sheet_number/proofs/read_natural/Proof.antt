@@ -9,21 +9,6 @@ use Rattle.sheet_number.specs.Number.{numberAt}
 use Rattle.sheet_number.proofs.read_natural.Statement.{statement}
 use Rattle.sheet_number.proofs.read_natural.Tie as tie
 
-cast-read-number : tie.Need-cast-read-number
-cast-read-number c = search needs
-
-cast-read-number-2 : tie.Need-cast-read-number-2
-cast-read-number-2 c = search needs
-
-read-number-requires : tie.Need-read-number-requires
-read-number-requires c κs = search needs
-
-enum-known-k : tie.Need-enum-known-k
-enum-known-k c = search needs
-
-enum-known-z : tie.Need-enum-known-z
-enum-known-z c = search needs
-
 cast-t13 : tie.Need-cast-t13
 cast-t13 c =
     let d = c .before .before .before .before .before in
@@ -62,11 +47,11 @@ pub read-natural-spec : {M : Type 1} → statement M
 read-natural-spec =
     tie.close
     (tie.spec
-    cast-read-number
-    cast-read-number-2
-    read-number-requires
-    enum-known-k
-    enum-known-z
+    (λ c. search needs)
+    (λ c. search needs)
+    (λ c κs. search needs)
+    (λ c. search needs)
+    (λ c. search needs)
     cast-t13
     returns
     returns-2)

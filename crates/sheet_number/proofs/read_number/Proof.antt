@@ -22,18 +22,6 @@ returns c =
     let s = now (a .s) in
     number-ended s (a .at) (a .low) (a .high) (omega arith) (written-none _ (run-ends s (a .at) (omega arith)))
 
-written-at-requires : tie.Need-written-at-requires
-written-at-requires c κs = search needs
-
-enum-told : tie.Need-enum-told
-enum-told c = search needs
-
-enum-told-2 : tie.Need-enum-told-2
-enum-told-2 c = search needs
-
-enum-known-z : tie.Need-enum-known-z
-enum-known-z c = search needs
-
 returns-2 : tie.Need-returns-2
 returns-2 c =
     let a = c .before .before .before .before .before .args in
@@ -86,10 +74,10 @@ read-number-spec =
     tie.close
     (tie.spec
     returns
-    written-at-requires
-    enum-told
-    enum-told-2
-    enum-known-z
+    (λ c κs. search needs)
+    (λ c. search needs)
+    (λ c. search needs)
+    (λ c. search needs)
     returns-2
     returns-3
     returns-4

@@ -11,15 +11,6 @@ use Rattle.sheet_number.specs.Reader.{value}
 use Rattle.sheet_number.proofs.read_value.Statement.{statement}
 use Rattle.sheet_number.proofs.read_value.Tie as tie
 
-read-number-requires : tie.Need-read-number-requires
-read-number-requires c κs = search needs
-
-enum-known-k : tie.Need-enum-known-k
-enum-known-k c = search needs
-
-enum-known-z : tie.Need-enum-known-z
-enum-known-z c = search needs
-
 cast-t9 : tie.Need-cast-t9
 unfolding value
 cast-t9 c =
@@ -50,4 +41,4 @@ returns-2 c =
 
 pub read-value-spec : {M : Type 1} → statement M
 read-value-spec =
-    tie.close (tie.spec read-number-requires enum-known-k enum-known-z cast-t9 returns returns-2)
+    tie.close (tie.spec (λ c κs. search needs) (λ c. search needs) (λ c. search needs) cast-t9 returns returns-2)

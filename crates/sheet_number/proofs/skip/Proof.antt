@@ -6,16 +6,10 @@ use Rattle.sheet_number.specs.Told.{skipOf}
 use Rattle.sheet_number.proofs.skip.Statement.{statement}
 use Rattle.sheet_number.proofs.skip.Tie as tie
 
-add-result : tie.Need-add-result
-add-result c = search needs
-
 returns : tie.Need-returns
 returns c =
     let a = c .before .args in
     ap (λ (b : Bool). skipOf b (a .at)) (sym (c .if1 .taken))
 
-returns-2 : tie.Need-returns-2
-returns-2 c = search needs
-
 pub skip-spec : {M : Type 1} → statement M
-skip-spec = tie.close (tie.spec add-result returns returns-2)
+skip-spec = tie.close (tie.spec (λ c. search needs) returns (λ c. search needs))

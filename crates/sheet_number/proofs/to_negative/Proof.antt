@@ -5,12 +5,6 @@ use Rattle.sheet_number.proofs.Signs.{neg-fits, is-neg, huge-neg}
 use Rattle.sheet_number.proofs.to_negative.Statement.{statement}
 use Rattle.sheet_number.proofs.to_negative.Tie as tie
 
-sub-t5 : tie.Need-sub-t5
-sub-t5 c = search needs
-
-cast-t6 : tie.Need-cast-t6
-cast-t6 c = search needs
-
 sub-t7 : tie.Need-sub-t7
 sub-t7 c = neg-fits (c .before .args .m) (omega arith) (omega arith)
 
@@ -21,4 +15,4 @@ returns-2 : tie.Need-returns-2
 returns-2 c = huge-neg (c .before .args .m) (c .before .args .e) (omega arith)
 
 pub to-negative-spec : {M : Type 1} → statement M
-to-negative-spec = tie.close (tie.spec sub-t5 cast-t6 sub-t7 returns returns-2)
+to-negative-spec = tie.close (tie.spec (λ c. search needs) (λ c. search needs) sub-t7 returns returns-2)

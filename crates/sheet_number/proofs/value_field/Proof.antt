@@ -10,24 +10,6 @@ use Rattle.sheet_number.specs.Reader.{value}
 use Rattle.sheet_number.proofs.value_field.Statement.{statement}
 use Rattle.sheet_number.proofs.value_field.Tie as tie
 
-read-value-requires : tie.Need-read-value-requires
-read-value-requires c κs = search needs
-
-enum-known-k : tie.Need-enum-known-k
-enum-known-k c = search needs
-
-enum-known-n : tie.Need-enum-known-n
-enum-known-n c = search needs
-
-read-byte-requires : tie.Need-read-byte-requires
-read-byte-requires c κs = search needs
-
-enum-known-k-2 : tie.Need-enum-known-k-2
-enum-known-k-2 c = search needs
-
-enum-known-f : tie.Need-enum-known-f
-enum-known-f c = search needs
-
 returns : tie.Need-returns
 returns c =
     let a = c .before .before .before .before .before .args in
@@ -54,12 +36,12 @@ pub value-field-spec : {M : Type 1} → statement M
 value-field-spec =
     tie.close
     (tie.spec
-    read-value-requires
-    enum-known-k
-    enum-known-n
-    read-byte-requires
-    enum-known-k-2
-    enum-known-f
+    (λ c κs. search needs)
+    (λ c. search needs)
+    (λ c. search needs)
+    (λ c κs. search needs)
+    (λ c. search needs)
+    (λ c. search needs)
     returns
     returns-2
     returns-3)

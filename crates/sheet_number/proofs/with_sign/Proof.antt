@@ -9,20 +9,8 @@ use Rattle.sheet_number.proofs.Signs.{neg-fits, is-neg, is-pos, huge-po
 use Rattle.sheet_number.proofs.with_sign.Statement.{statement}
 use Rattle.sheet_number.proofs.with_sign.Tie as tie
 
-sub-t8 : tie.Need-sub-t8
-sub-t8 c = search needs
-
-cast-t9 : tie.Need-cast-t9
-cast-t9 c = search needs
-
 sub-t10 : tie.Need-sub-t10
 sub-t10 c = neg-fits (c .before .before .args .m) (omega arith) (omega arith)
-
-cast-t11 : tie.Need-cast-t11
-cast-t11 c = search needs
-
-to-negative-requires : tie.Need-to-negative-requires
-to-negative-requires c κs = search needs
 
 returns : tie.Need-returns
 returns c =
@@ -48,11 +36,11 @@ pub with-sign-spec : {M : Type 1} → statement M
 with-sign-spec =
     tie.close
     (tie.spec
-    sub-t8
-    cast-t9
+    (λ c. search needs)
+    (λ c. search needs)
     sub-t10
-    cast-t11
-    to-negative-requires
+    (λ c. search needs)
+    (λ c κs. search needs)
     returns
     returns-2
     returns-3

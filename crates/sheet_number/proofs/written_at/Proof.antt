@@ -15,31 +15,10 @@ use Rattle.sheet_number.proofs.FirstByte.{after-zero, from-sign}
 use Rattle.sheet_number.proofs.written_at.Statement.{statement}
 use Rattle.sheet_number.proofs.written_at.Tie as tie
 
-shared-slice-read-b : tie.Need-shared-slice-read-b
-shared-slice-read-b c = search needs
-
-add-zero-before : tie.Need-add-zero-before
-add-zero-before c = search needs
-
-zero-before-requires : tie.Need-zero-before-requires
-zero-before-requires c κs = search needs
-
 returns : tie.Need-returns
 returns c =
     let a = c .before .before .before .before .args in
     after-zero (now (a .s)) (a .at) (omega arith) (c .before .if1 .taken) (c .zero-before .ensures)
-
-skip-requires : tie.Need-skip-requires
-skip-requires c κs = search needs
-
-positive-from-requires : tie.Need-positive-from-requires
-positive-from-requires c κs = search needs
-
-enum-told : tie.Need-enum-told
-enum-told c = search needs
-
-enum-known-m : tie.Need-enum-known-m
-enum-known-m c = search needs
 
 with-sign-requires : tie.Need-with-sign-requires
 with-sign-requires c κs =
@@ -78,14 +57,14 @@ pub written-at-spec : {M : Type 1} → statement M
 written-at-spec =
     tie.close
     (tie.spec
-    shared-slice-read-b
-    add-zero-before
-    zero-before-requires
+    (λ c. search needs)
+    (λ c. search needs)
+    (λ c κs. search needs)
     returns
-    skip-requires
-    positive-from-requires
-    enum-told
-    enum-known-m
+    (λ c κs. search needs)
+    (λ c κs. search needs)
+    (λ c. search needs)
+    (λ c. search needs)
     with-sign-requires
     returns-2
     returns-3)

@@ -8,12 +8,6 @@ use Rattle.sheet_number.proofs.FirstByte.{zero-is, zero-ill}
 use Rattle.sheet_number.proofs.zero_before.Statement.{statement}
 use Rattle.sheet_number.proofs.zero_before.Tie as tie
 
-shared-slice-read-in-run : tie.Need-shared-slice-read-in-run
-shared-slice-read-in-run c = search needs
-
-in-run-requires : tie.Need-in-run-requires
-in-run-requires c κs = search needs
-
 returns : tie.Need-returns
 returns c =
     let a = c .before .before .before .before .before .args in
@@ -31,4 +25,4 @@ returns-3 c =
 
 pub zero-before-spec : {M : Type 1} → statement M
 zero-before-spec =
-    tie.close (tie.spec shared-slice-read-in-run in-run-requires returns returns-2 returns-3)
+    tie.close (tie.spec (λ c. search needs) (λ c κs. search needs) returns returns-2 returns-3)

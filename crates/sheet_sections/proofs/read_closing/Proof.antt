@@ -9,36 +9,6 @@ use Rattle.sheet_sections.specs.Sections.{closing}
 use Rattle.sheet_sections.proofs.read_closing.Statement.{statement}
 use Rattle.sheet_sections.proofs.read_closing.Tie as tie
 
-natural-field-requires : tie.Need-natural-field-requires
-natural-field-requires c κs = search needs
-
-enum-known-k : tie.Need-enum-known-k
-enum-known-k c = search needs
-
-enum-known-n : tie.Need-enum-known-n
-enum-known-n c = search needs
-
-natural-field-requires-2 : tie.Need-natural-field-requires-2
-natural-field-requires-2 c κs = search needs
-
-enum-known-k-2 : tie.Need-enum-known-k-2
-enum-known-k-2 c = search needs
-
-enum-known-id : tie.Need-enum-known-id
-enum-known-id c = search needs
-
-value-field-requires : tie.Need-value-field-requires
-value-field-requires c κs = search needs
-
-enum-known-k-3 : tie.Need-enum-known-k-3
-enum-known-k-3 c = search needs
-
-enum-known-value : tie.Need-enum-known-value
-enum-known-value c = search needs
-
-kind-for-requires : tie.Need-kind-for-requires
-kind-for-requires c κs = search needs
-
 returns : tie.Need-returns
 unfolding closing
 returns c = rw (sym (c .before .before .before .natural-field .ensures) ∙ ap toldNatural (c .before .k .given .1))
@@ -61,16 +31,16 @@ pub read-closing-spec : {M : Type 1} → statement M
 read-closing-spec =
     tie.close
     (tie.spec
-    natural-field-requires
-    enum-known-k
-    enum-known-n
-    natural-field-requires-2
-    enum-known-k-2
-    enum-known-id
-    value-field-requires
-    enum-known-k-3
-    enum-known-value
-    kind-for-requires
+    (λ c κs. search needs)
+    (λ c. search needs)
+    (λ c. search needs)
+    (λ c κs. search needs)
+    (λ c. search needs)
+    (λ c. search needs)
+    (λ c κs. search needs)
+    (λ c. search needs)
+    (λ c. search needs)
+    (λ c κs. search needs)
     returns
     returns-2
     returns-3

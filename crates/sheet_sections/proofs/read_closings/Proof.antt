@@ -10,21 +10,6 @@ use Rattle.sheet_number.specs.Told.{toldNatural}
 use Rattle.sheet_sections.proofs.read_closings.Statement.{statement}
 use Rattle.sheet_sections.proofs.read_closings.Tie as tie
 
-natural-field-requires : tie.Need-natural-field-requires
-natural-field-requires c κs = search needs
-
-enum-known-k : tie.Need-enum-known-k
-enum-known-k c = search needs
-
-no-closings-requires : tie.Need-no-closings-requires
-no-closings-requires c κs = search needs
-
-enum-known-n : tie.Need-enum-known-n
-enum-known-n c = search needs
-
-cast-read-closing-lines : tie.Need-cast-read-closing-lines
-cast-read-closing-lines c = search needs
-
 read-closing-lines-requires : tie.Need-read-closing-lines-requires
 read-closing-lines-requires c κs =
     let a = c .before .before .before .before .before .args in
@@ -49,11 +34,11 @@ pub read-closings-spec : {M : Type 1} → statement M
 read-closings-spec =
     tie.close
     (tie.spec
-    natural-field-requires
-    enum-known-k
-    no-closings-requires
-    enum-known-n
-    cast-read-closing-lines
+    (λ c κs. search needs)
+    (λ c. search needs)
+    (λ c κs. search needs)
+    (λ c. search needs)
+    (λ c. search needs)
     read-closing-lines-requires
     returns
     returns-2)

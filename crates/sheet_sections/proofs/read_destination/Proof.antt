@@ -9,33 +9,6 @@ use Rattle.sheet_sections.specs.Sections.{destination}
 use Rattle.sheet_sections.proofs.read_destination.Statement.{statement}
 use Rattle.sheet_sections.proofs.read_destination.Tie as tie
 
-natural-field-requires : tie.Need-natural-field-requires
-natural-field-requires c κs = search needs
-
-enum-known-k : tie.Need-enum-known-k
-enum-known-k c = search needs
-
-enum-known-id : tie.Need-enum-known-id
-enum-known-id c = search needs
-
-value-field-requires : tie.Need-value-field-requires
-value-field-requires c κs = search needs
-
-enum-known-k-2 : tie.Need-enum-known-k-2
-enum-known-k-2 c = search needs
-
-enum-known-min : tie.Need-enum-known-min
-enum-known-min c = search needs
-
-value-field-requires-2 : tie.Need-value-field-requires-2
-value-field-requires-2 c κs = search needs
-
-enum-known-k-3 : tie.Need-enum-known-k-3
-enum-known-k-3 c = search needs
-
-enum-known-max : tie.Need-enum-known-max
-enum-known-max c = search needs
-
 returns : tie.Need-returns
 unfolding destination
 returns c = rw (sym (c .before .before .before .natural-field .ensures) ∙ ap toldNatural (c .before .k .given .1))
@@ -59,15 +32,15 @@ pub read-destination-spec : {M : Type 1} → statement M
 read-destination-spec =
     tie.close
     (tie.spec
-    natural-field-requires
-    enum-known-k
-    enum-known-id
-    value-field-requires
-    enum-known-k-2
-    enum-known-min
-    value-field-requires-2
-    enum-known-k-3
-    enum-known-max
+    (λ c κs. search needs)
+    (λ c. search needs)
+    (λ c. search needs)
+    (λ c κs. search needs)
+    (λ c. search needs)
+    (λ c. search needs)
+    (λ c κs. search needs)
+    (λ c. search needs)
+    (λ c. search needs)
     returns
     returns-2
     returns-3

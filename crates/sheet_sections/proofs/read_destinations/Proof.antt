@@ -10,21 +10,6 @@ use Rattle.sheet_number.specs.Told.{toldNatural}
 use Rattle.sheet_sections.proofs.read_destinations.Statement.{statement}
 use Rattle.sheet_sections.proofs.read_destinations.Tie as tie
 
-natural-field-requires : tie.Need-natural-field-requires
-natural-field-requires c κs = search needs
-
-enum-known-k : tie.Need-enum-known-k
-enum-known-k c = search needs
-
-no-destinations-requires : tie.Need-no-destinations-requires
-no-destinations-requires c κs = search needs
-
-enum-known-n : tie.Need-enum-known-n
-enum-known-n c = search needs
-
-cast-read-destination-lines : tie.Need-cast-read-destination-lines
-cast-read-destination-lines c = search needs
-
 read-destination-lines-requires : tie.Need-read-destination-lines-requires
 read-destination-lines-requires c κs =
     let a = c .before .before .before .before .before .args in
@@ -49,11 +34,11 @@ pub read-destinations-spec : {M : Type 1} → statement M
 read-destinations-spec =
     tie.close
     (tie.spec
-    natural-field-requires
-    enum-known-k
-    no-destinations-requires
-    enum-known-n
-    cast-read-destination-lines
+    (λ c κs. search needs)
+    (λ c. search needs)
+    (λ c κs. search needs)
+    (λ c. search needs)
+    (λ c. search needs)
     read-destination-lines-requires
     returns
     returns-2)

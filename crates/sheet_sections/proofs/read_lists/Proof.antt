@@ -10,21 +10,6 @@ use Rattle.sheet_number.specs.Told.{toldNatural}
 use Rattle.sheet_sections.proofs.read_lists.Statement.{statement}
 use Rattle.sheet_sections.proofs.read_lists.Tie as tie
 
-natural-field-requires : tie.Need-natural-field-requires
-natural-field-requires c κs = search needs
-
-enum-known-k : tie.Need-enum-known-k
-enum-known-k c = search needs
-
-no-lists-requires : tie.Need-no-lists-requires
-no-lists-requires c κs = search needs
-
-enum-known-n : tie.Need-enum-known-n
-enum-known-n c = search needs
-
-cast-read-list-lines : tie.Need-cast-read-list-lines
-cast-read-list-lines c = search needs
-
 read-list-lines-requires : tie.Need-read-list-lines-requires
 read-list-lines-requires c κs =
     let a = c .before .before .before .before .before .args in
@@ -49,11 +34,11 @@ pub read-lists-spec : {M : Type 1} → statement M
 read-lists-spec =
     tie.close
     (tie.spec
-    natural-field-requires
-    enum-known-k
-    no-lists-requires
-    enum-known-n
-    cast-read-list-lines
+    (λ c κs. search needs)
+    (λ c. search needs)
+    (λ c κs. search needs)
+    (λ c. search needs)
+    (λ c. search needs)
     read-list-lines-requires
     returns
     returns-2)

@@ -19,21 +19,6 @@ abbrev μ-loop : tie.MeasureT-loop
 loop-holds : tie.Need-loop-holds Inv-loop μ-loop
 loop-holds c = (omega arith, sym (all-none _))
 
-cast-x : tie.Need-cast-x Inv-loop μ-loop
-cast-x c = search needs
-
-mul-x : tie.Need-mul-x Inv-loop μ-loop
-mul-x c = search needs
-
-shared-slice-read-x : tie.Need-shared-slice-read-x Inv-loop μ-loop
-shared-slice-read-x c = search needs
-
-add-k : tie.Need-add-k Inv-loop μ-loop
-add-k c = search needs
-
-loop-less : tie.Need-loop-less Inv-loop μ-loop
-loop-less c = search needs
-
 loop-again : tie.Need-loop-again Inv-loop μ-loop
 loop-again c =
     let s = c .before .before in
@@ -48,4 +33,4 @@ returns c =
     c .before .loop .inv .1 ∙ ap (allB (between (a .val .now) (a .min) (a .max))) k-is
 
 pub all-between-spec : {M : Type 1} → statement M
-all-between-spec = tie.close (tie.spec Inv-loop μ-loop loop-holds cast-x mul-x shared-slice-read-x add-k loop-less loop-again returns)
+all-between-spec = tie.close (tie.spec Inv-loop μ-loop loop-holds (λ c. search needs) (λ c. search needs) (λ c. search needs) (λ c. search needs) (λ c. search needs) loop-again returns)

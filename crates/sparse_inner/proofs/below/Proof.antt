@@ -20,12 +20,6 @@ v-fits c = search needs
 is : (c : tie.After-below) → c .below .result ≡ cutOf (c .before .before .before .before .args .s .n) (c .before .before .before .before .args .v .0 -ℤ c .before .before .before .before .args .s .off)
 is c = c .below .ensures ∙ ap (cutOf (c .before .before .before .before .args .s .n)) (read-diff (v-fits c) (off-fits c))
 
-cast-below : tie.Need-cast-below
-cast-below c = search needs
-
-below-requires : tie.Need-below-requires
-below-requires c κs = search needs
-
 cast-result : tie.Need-cast-result
 cast-result c = record { fits = omega (arith, is c, cut-le (c .before .before .before .before .args .s .n) (c .before .before .before .before .args .v .0 -ℤ c .before .before .before .before .args .s .off)) }
 
@@ -33,4 +27,4 @@ returns : tie.Need-returns
 returns c = is c
 
 pub below-spec : {M : Type 1} → statement M
-below-spec = tie.close (tie.spec cast-below below-requires cast-result returns)
+below-spec = tie.close (tie.spec (λ c. search needs) (λ c κs. search needs) cast-result returns)

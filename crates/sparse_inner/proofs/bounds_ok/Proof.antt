@@ -21,24 +21,15 @@ second-fails false false c e = refl
 both-hold : (a b c r : Bool) → a ≡ true → b ≡ true → r ≡ c → r ≡ a && b && c
 both-hold a b c r p q e = rw (p, q) e
 
-holds-requires : tie.Need-holds-requires
-holds-requires c κs = search needs
-
 returns : tie.Need-returns
 unfolding boundsB
 returns c = first-fails _ _ _ (sym (c .before .holds .ensures) ∙ not-true _ (c .if1 .taken))
-
-holds-requires-2 : tie.Need-holds-requires-2
-holds-requires-2 c κs = search needs
 
 returns-2 : tie.Need-returns-2
 unfolding boundsB
 returns-2 c =
     let a = c .before .before .before .before .before .before .args in
     second-fails (heldB (a .ind .now) (a .n) (a .size) (a .min)) _ (allB (between (a .val .now) (a .min) (a .max)) (a .size)) (sym (c .before .holds2 .ensures) ∙ not-true _ (c .if2 .taken))
-
-all-between-requires : tie.Need-all-between-requires
-all-between-requires c κs = search needs
 
 returns-3 : tie.Need-returns-3
 unfolding boundsB
@@ -48,4 +39,4 @@ returns-3 c =
     both-hold _ _ _ _ (sym (first .before .holds .ensures) ∙ not-false _ (first .if1 .left)) (sym (second .before .holds2 .ensures) ∙ not-false _ (second .if2 .left)) (c .all-between .ensures)
 
 pub bounds-ok-spec : {M : Type 1} → statement M
-bounds-ok-spec = tie.close (tie.spec holds-requires returns holds-requires-2 returns-2 all-between-requires returns-3)
+bounds-ok-spec = tie.close (tie.spec (λ c κs. search needs) returns (λ c κs. search needs) returns-2 (λ c κs. search needs) returns-3)

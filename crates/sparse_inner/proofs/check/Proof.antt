@@ -21,9 +21,6 @@ returns : tie.Need-returns
 unfolding verdictOf
 returns c = rw (lt-leb _ _ (c .if1 .taken))
 
-has-room-requires : tie.Need-has-room-requires
-has-room-requires c κs = search needs
-
 returns-2 : tie.Need-returns-2
 unfolding verdictOf
 returns-2 c = rw (narrow (c .before .before), sym (c .before .has-room .ensures) ∙ not-true _ (c .if2 .taken))
@@ -41,4 +38,4 @@ returns-4 c = rw (narrow (c .before .before .before .before), room (c .before .b
 
 pub check-spec : {M : Type 1} → statement M
 check-spec =
-    tie.close (tie.spec returns has-room-requires returns-2 is-sound-requires returns-3 returns-4)
+    tie.close (tie.spec returns (λ c κs. search needs) returns-2 is-sound-requires returns-3 returns-4)

@@ -38,15 +38,9 @@ returns-2 : tie.Need-returns-2
 unfolding bothOf
 returns-2 c = rw (narrow (c .before .before), lt-leb _ _ (c .if2 .taken))
 
-has-room-requires : tie.Need-has-room-requires
-has-room-requires c κs = search needs
-
 returns-3 : tie.Need-returns-3
 unfolding bothOf
 returns-3 c = rw (narrow (c .before .before .before .before), narrow-t (c .before .before), sym (c .before .has-room .ensures) ∙ not-true _ (c .if3 .taken))
-
-has-room-requires-2 : tie.Need-has-room-requires-2
-has-room-requires-2 c κs = search needs
 
 returns-4 : tie.Need-returns-4
 unfolding bothOf
@@ -76,9 +70,9 @@ check-both-spec =
     (tie.spec
     returns
     returns-2
-    has-room-requires
+    (λ c κs. search needs)
     returns-3
-    has-room-requires-2
+    (λ c κs. search needs)
     returns-4
     is-sound-requires
     returns-5

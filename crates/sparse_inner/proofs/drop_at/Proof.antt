@@ -1,8 +1,8 @@
 -- `sparse_inner::drop_at` meets its contract: the offset is exchanged with the last held one, and a bound is looked for where it was one. Assumes nothing.
-use mathlib.Core.Path.{_≡_, sym, ap, _∙_}
+use mathlib.Core.Path.{_≡_, sym, _∙_}
 use mathlib.Core.Bool.{true}
 use mathlib.Core.List.{List}
-use Prim.Native.Nat.{ℕ, _-_}
+use Prim.Native.Nat.{ℕ, _-_, _<_}
 use native.Mathlib.Omega.{arith}
 use lib.ListN.{getD}
 use borrow.Author.Tests.{not-true, not-false}
@@ -10,7 +10,8 @@ use Rattle.order.specs.Order.{swapped}
 use Rattle.order.proofs.Orders.{length-swapped}
 use Rattle.sparse_inner.specs.declared.Sparse.{Sparse}
 use Rattle.sparse_inner.specs.Set.{full, heldB, Held}
-use Rattle.sparse_inner.proofs.Sets.{held-of, l-lt, l-at, spans-left}
+use Rattle.sparse_inner.proofs.Sets.{held-of, last-in, spans-left}
+use Rattle.sparse_inner.proofs.Exchanged.{may-exchange, val-now}
 use Rattle.sparse_inner.proofs.Drops.{dropped-is, drop-none}
 use borrow.Author.Needs.{needs}
 use Rattle.sparse_inner.proofs.drop_at.Statement.{statement}
@@ -44,14 +45,11 @@ e1 x = x .before .before .before .before
 ind-now : (x : tie.After-exchange) → x .exchange .last .0 ≡ swapped (o-of (e1 x)) (getD (val-of (e1 x)) (s-of (e1 x) .size - 1) 0) (ind-of (e1 x))
 ind-now x = x .exchange .ensures .0
 
-val-now : (x : tie.After-exchange) → x .exchange .last .1 .0 ≡ swapped (getD (ind-of (e1 x)) (o-of (e1 x)) 0) (s-of (e1 x) .size - 1) (val-of (e1 x))
-val-now x = x .exchange .ensures .1 ∙ ap (λ (j : ℕ). swapped (getD (ind-of (e1 x)) (o-of (e1 x)) 0) j (val-of (e1 x))) (l-at (s-of (e1 x)) (ind-of (e1 x)) (val-of (e1 x)) (st (e1 x) .pre) (o-of (e1 x)) (held (e1 x)))
+abbrev last : tie.Else1 → ℕ
+last k = s-of k .size - 1
 
-holds-requires : tie.Need-holds-requires
-holds-requires c κs = search needs
-
-same-length : tie.Need-same-length
-same-length c = search needs
+last-lt : (k : tie.Else1) → last k < s-of k .n
+last-lt k = last-in (s-of k) (ind-of k) (val-of k) (st k .pre) (o-of k) (held k)
 
 returns : tie.Need-returns
 returns c = sym (drop-none (full (c .before .before .before .before .before .args .s) (c .before .before .before .before .before .args .ind .now) (c .before .before .before .before .before .args .val .now)) (c .before .before .before .before .before .args .o) (sym (c .before .holds .ensures) ∙ not-true _ (c .if1 .taken)))
@@ -59,27 +57,11 @@ returns c = sym (drop-none (full (c .before .before .before .before .before .arg
 sub-last : tie.Need-sub-last
 sub-last c = omega (arith, held c .in-set)
 
-cast-l : tie.Need-cast-l
-cast-l c = search needs
-
-mul-l : tie.Need-mul-l
-mul-l c = search needs
-
 slice-read-l : tie.Need-slice-read-l
 slice-read-l c = omega (arith, held (c .before) .in-set, st (c .before) .pre .within, st (c .before) .pre .room-val)
 
 exchange-requires : tie.Need-exchange-requires
-exchange-requires c κs =
-    let k = c .before .before .before in
-    let W = st k .pre in
-    let H = held k in
-    let L = l-lt (s-of k) (ind-of k) (val-of k) W (o-of k) H in (
-      (omega (arith, H .in-universe, W .room-ind), omega (arith, L, W .room-ind)),
-      (
-        (omega (arith, W .inverse .ind-lt (o-of k) (H .in-universe), W .room-val), omega (arith, W .inverse .ind-lt (getD (val-of k) (s-of k .size - 1) 0) L, W .room-val)),
-        (W .inverse .val-ind (o-of k) (H .in-universe), W .inverse .val-ind (getD (val-of k) (s-of k .size - 1) 0) L),
-      ),
-    )
+exchange-requires c κs = let k = c .before .before .before in may-exchange (s-of k) (ind-of k) (val-of k) (st k .pre) (o-of k) (last k) (held k .in-universe) (last-lt k)
 
 new-min-requires : tie.Need-new-min-requires
 new-min-requires c κs =
@@ -93,32 +75,26 @@ new-max-requires c κs =
     let k = e1 x in
     (rw (ind-now x, length-swapped) (st k .pre .room-ind), λ h. rw (ind-now x) (spans-left (s-of k) (ind-of k) (val-of k) (st k .pre) (o-of k) (held k) h))
 
-same-length-2 : tie.Need-same-length-2
-same-length-2 c = search needs
-
-same-length-3 : tie.Need-same-length-3
-same-length-3 c = search needs
-
 returns-2 : tie.Need-returns-2
 returns-2 c =
     let x = c .before .before .before .before .before .before .before .before in
     let k = e1 x in
-    dropped-is (s-of k) (ind-of k) (val-of k) (o-of k) _ _ _ _ (yes-held k) (ind-now x) (val-now x) (c .before .before .new-min .ensures) (c .new-max .ensures)
+    dropped-is (s-of k) (ind-of k) (val-of k) (o-of k) _ _ _ _ (yes-held k) (ind-now x) (val-now (s-of k) (ind-of k) (val-of k) (st k .pre) (o-of k) (last k) (held k .in-universe) (last-lt k) _ (x .exchange .ensures .1)) (c .before .before .new-min .ensures) (c .new-max .ensures)
 
 pub drop-at-spec : {M : Type 1} → statement M
 drop-at-spec =
     tie.close
     (tie.spec
-    holds-requires
-    same-length
+    (λ c κs. search needs)
+    (λ c. search needs)
     returns
     sub-last
-    cast-l
-    mul-l
+    (λ c. search needs)
+    (λ c. search needs)
     slice-read-l
     exchange-requires
     new-min-requires
     new-max-requires
-    same-length-2
-    same-length-3
+    (λ c. search needs)
+    (λ c. search needs)
     returns-2)

@@ -13,12 +13,9 @@ returns-2 : tie.Need-returns-2
 unfolding fitsB
 returns-2 c = simp (le-leb _ _ (c .before .if1 .left), eq-eqb _ _ (c .if2 .taken))
 
-bounds-ok-requires : tie.Need-bounds-ok-requires
-bounds-ok-requires c κs = search needs
-
 returns-3 : tie.Need-returns-3
 unfolding fitsB
 returns-3 c = simp (le-leb _ _ (c .before .before .if1 .left), ne-eqb _ _ (c .before .if2 .left)) (c .bounds-ok .ensures)
 
 pub fits-spec : {M : Type 1} → statement M
-fits-spec = tie.close (tie.spec returns returns-2 bounds-ok-requires returns-3)
+fits-spec = tie.close (tie.spec returns returns-2 (λ c κs. search needs) returns-3)

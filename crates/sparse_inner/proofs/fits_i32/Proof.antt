@@ -8,9 +8,6 @@ use Rattle.sparse_inner.proofs.fits_i32.Tie as tie
 cast-result : tie.Need-cast-result
 cast-result c = wide-fits (c .fits .off)
 
-cast-result-2 : tie.Need-cast-result-2
-cast-result-2 c = search needs
-
 add-result : tie.Need-add-result
 add-result c = sum-fits {o = c .args .n} (c .fits .off) (omega (arith, c .fits .n))
 
@@ -18,4 +15,4 @@ returns : tie.Need-returns
 returns c = rw (sum-is {o = c .args .n} (c .fits .off) (omega (arith, c .fits .n)))
 
 pub fits-i32-spec : {M : Type 1} → statement M
-fits-i32-spec = tie.close (tie.spec cast-result cast-result-2 add-result returns)
+fits-i32-spec = tie.close (tie.spec cast-result (λ c. search needs) add-result returns)

@@ -16,18 +16,9 @@ returns : tie.Need-returns
 unfolding fromCut
 returns c = rw (lt-ltb _ _ (c .if1 .taken))
 
-drop-run-requires : tie.Need-drop-run-requires
-drop-run-requires c κs = search needs
-
-same-length : tie.Need-same-length
-same-length c = search needs
-
-same-length-2 : tie.Need-same-length-2
-same-length-2 c = search needs
-
 returns-2 : tie.Need-returns-2
 unfolding fromCut
 returns-2 c = rw (le-ltb _ _ (c .before .before .before .before .before .before .before .if1 .left)) (c .before .before .before .before .drop-run .ensures ∙ sym (from-min (fu (c .before .before .before .before .before .before .before .before .before .before .before)) (c .before .before .before .before .before .before .before .before .before .before .before .pre) (c .before .before .before .before .before .before .before .before .before .before .before .args .cut)))
 
 pub from-cut-spec : {M : Type 1} → statement M
-from-cut-spec = tie.close (tie.spec returns drop-run-requires same-length same-length-2 returns-2)
+from-cut-spec = tie.close (tie.spec returns (λ c κs. search needs) (λ c. search needs) (λ c. search needs) returns-2)

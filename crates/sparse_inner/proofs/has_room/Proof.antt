@@ -4,9 +4,6 @@ use borrow.Author.Needs.{needs}
 use Rattle.sparse_inner.proofs.has_room.Statement.{statement}
 use Rattle.sparse_inner.proofs.has_room.Tie as tie
 
-cast-n : tie.Need-cast-n
-cast-n c = search needs
-
 returns : tie.Need-returns
 returns c = simp (lt-leb _ _ (c .if1 .taken))
 
@@ -14,4 +11,4 @@ returns-2 : tie.Need-returns-2
 returns-2 c = simp (le-leb _ _ (c .if1 .left))
 
 pub has-room-spec : {M : Type 1} → statement M
-has-room-spec = tie.close (tie.spec cast-n returns returns-2)
+has-room-spec = tie.close (tie.spec (λ c. search needs) returns returns-2)

@@ -9,15 +9,9 @@ returns : tie.Need-returns
 unfolding heldB
 returns c = simp (le-ltb _ _ (c .if1 .taken))
 
-mul-result : tie.Need-mul-result
-mul-result c = search needs
-
-shared-slice-read-result : tie.Need-shared-slice-read-result
-shared-slice-read-result c = search needs
-
 returns-2 : tie.Need-returns-2
 unfolding heldB
 returns-2 c = simp (lt-ltb _ _ (c .before .if1 .left))
 
 pub holds-spec : {M : Type 1} → statement M
-holds-spec = tie.close (tie.spec returns mul-result shared-slice-read-result returns-2)
+holds-spec = tie.close (tie.spec returns (λ c. search needs) (λ c. search needs) returns-2)

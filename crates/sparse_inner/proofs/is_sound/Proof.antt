@@ -18,25 +18,13 @@ off-fits c = search needs
 far : (c : tie.After-fits-i32) → c .fits-i32 .result ≡ leZ (c .before .before .before .before .args .s .off +ℤ pos (c .before .before .before .before .args .s .n)) (pos 2147483648)
 far c = rw (toZ-ofZ (off-fits c)) at (c .fits-i32 .ensures)
 
-fits-i32-requires : tie.Need-fits-i32-requires
-fits-i32-requires c κs = search needs
-
 returns : tie.Need-returns
 unfolding soundB
 returns c = rw (sym (far (c .before)) ∙ not-true _ (c .if1 .taken))
 
-is-inverse-requires : tie.Need-is-inverse-requires
-is-inverse-requires c κs = search needs
-
 returns-2 : tie.Need-returns-2
 unfolding soundB
 returns-2 c = rw (sym (far (c .before .before .before)) ∙ not-false _ (c .before .before .if1 .left), sym (c .before .is-inverse .ensures) ∙ not-true _ (c .if2 .taken))
-
-state-requires : tie.Need-state-requires
-state-requires c κs = search needs
-
-fits-requires : tie.Need-fits-requires
-fits-requires c κs = search needs
 
 returns-3 : tie.Need-returns-3
 unfolding soundB
@@ -48,10 +36,10 @@ pub is-sound-spec : {M : Type 1} → statement M
 is-sound-spec =
     tie.close
     (tie.spec
-    fits-i32-requires
+    (λ c κs. search needs)
     returns
-    is-inverse-requires
+    (λ c κs. search needs)
     returns-2
-    state-requires
-    fits-requires
+    (λ c κs. search needs)
+    (λ c κs. search needs)
     returns-3)

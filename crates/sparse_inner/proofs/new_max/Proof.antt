@@ -6,9 +6,6 @@ use Rattle.sparse_inner.proofs.Sets.{max-stays, max-scan, min-below}
 use Rattle.sparse_inner.proofs.new_max.Statement.{statement}
 use Rattle.sparse_inner.proofs.new_max.Tie as tie
 
-returns : tie.Need-returns
-returns c = search needs
-
 returns-2 : tie.Need-returns-2
 returns-2 c =
     let s = c .before .before .before in
@@ -28,4 +25,4 @@ returns-3 c =
     max-scan (s .args .ind .now) (s .args .n) (s .args .size) (s .args .min) (s .args .max) (s .args .o) p (s .pre .1 p) (c .before .if2 .left) (c .last-held .result) (c .last-held .ensures .0 .0) (c .last-held .ensures .0 .1) (c .last-held .ensures .1 .0) (c .last-held .ensures .1 .1)
 
 pub new-max-spec : {M : Type 1} → statement M
-new-max-spec = tie.close (tie.spec returns returns-2 last-held-requires returns-3)
+new-max-spec = tie.close (tie.spec (λ c. search needs) returns-2 last-held-requires returns-3)

@@ -6,9 +6,6 @@ use Rattle.sparse_inner.proofs.Sets.{min-stays, min-scan, above-o}
 use Rattle.sparse_inner.proofs.new_min.Statement.{statement}
 use Rattle.sparse_inner.proofs.new_min.Tie as tie
 
-returns : tie.Need-returns
-returns c = search needs
-
 returns-2 : tie.Need-returns-2
 returns-2 c =
     let s = c .before .before .before in
@@ -34,4 +31,4 @@ returns-3 c =
     min-scan (s .args .ind .now) (s .args .n) (s .args .size) (s .args .min) (s .args .max) (s .args .o) p (s .pre .1 p) (c .before .if2 .left) (c .first-held .result) (c .first-held .ensures .0 .0) (c .first-held .ensures .0 .1) (c .first-held .ensures .1 .0) (c .first-held .ensures .1 .1)
 
 pub new-min-spec : {M : Type 1} → statement M
-new-min-spec = tie.close (tie.spec returns returns-2 add-first-held first-held-requires returns-3)
+new-min-spec = tie.close (tie.spec (λ c. search needs) returns-2 add-first-held first-held-requires returns-3)

@@ -20,12 +20,6 @@ v-fits c = search needs
 is : (c : tie.After-place) → c .place .result ≡ placeOf (c .before .before .before .before .args .s .n) (c .before .before .before .before .args .v .0 -ℤ c .before .before .before .before .args .s .off)
 is c = c .place .ensures ∙ ap (placeOf (c .before .before .before .before .args .s .n)) (read-diff (v-fits c) (off-fits c))
 
-cast-place : tie.Need-cast-place
-cast-place c = search needs
-
-place-requires : tie.Need-place-requires
-place-requires c κs = search needs
-
 cast-result : tie.Need-cast-result
 cast-result c = record { fits = omega (arith, is c, place-le (c .before .before .before .before .args .s .n) (c .before .before .before .before .args .v .0 -ℤ c .before .before .before .before .args .s .off)) }
 
@@ -33,4 +27,4 @@ returns : tie.Need-returns
 returns c = is c
 
 pub place-spec : {M : Type 1} → statement M
-place-spec = tie.close (tie.spec cast-place place-requires cast-result returns)
+place-spec = tie.close (tie.spec (λ c. search needs) (λ c κs. search needs) cast-result returns)

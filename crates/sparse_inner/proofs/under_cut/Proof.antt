@@ -28,15 +28,6 @@ add-drop-run c =
     let s = c .before .before .before .before .before .before .before .before .before in
     omega (arith, s .pre .bounds (omega (arith, c .before .before .before .if2 .left)) .max-held .in-universe, s .pre .narrow)
 
-drop-run-requires : tie.Need-drop-run-requires
-drop-run-requires c κs = search needs
-
-same-length : tie.Need-same-length
-same-length c = search needs
-
-same-length-2 : tie.Need-same-length-2
-same-length-2 c = search needs
-
 returns-3 : tie.Need-returns-3
 unfolding underCut
 returns-3 c =
@@ -46,4 +37,4 @@ returns-3 c =
 pub under-cut-spec : {M : Type 1} → statement M
 under-cut-spec =
     tie.close
-    (tie.spec returns returns-2 add-drop-run drop-run-requires same-length same-length-2 returns-3)
+    (tie.spec returns returns-2 add-drop-run (λ c κs. search needs) (λ c. search needs) (λ c. search needs) returns-3)

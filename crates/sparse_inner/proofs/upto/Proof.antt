@@ -20,12 +20,6 @@ v-fits c = search needs
 is : (c : tie.After-upto) → c .upto .result ≡ cutOf (c .before .before .before .before .args .s .n) ((c .before .before .before .before .args .v .0 -ℤ c .before .before .before .before .args .s .off) +ℤ pos 1)
 is c = c .upto .ensures ∙ ap (λ (x : ℤ). cutOf (c .before .before .before .before .args .s .n) (x +ℤ pos 1)) (read-diff (v-fits c) (off-fits c))
 
-cast-upto : tie.Need-cast-upto
-cast-upto c = search needs
-
-upto-requires : tie.Need-upto-requires
-upto-requires c κs = search needs
-
 cast-result : tie.Need-cast-result
 cast-result c = record { fits = omega (arith, is c, cut-le (c .before .before .before .before .args .s .n) ((c .before .before .before .before .args .v .0 -ℤ c .before .before .before .before .args .s .off) +ℤ pos 1)) }
 
@@ -33,4 +27,4 @@ returns : tie.Need-returns
 returns c = is c
 
 pub upto-spec : {M : Type 1} → statement M
-upto-spec = tie.close (tie.spec cast-upto upto-requires cast-result returns)
+upto-spec = tie.close (tie.spec (λ c. search needs) (λ c κs. search needs) cast-result returns)

@@ -14,11 +14,8 @@ off-fits c = search needs
 is : (c : tie.After-value) → c .value .result ≡ c .before .before .args .s .off +ℤ pos (c .before .before .args .o)
 is c = c .value .ensures ∙ read-sum (c .before .before .args .o) (off-fits c)
 
-value-requires : tie.Need-value-requires
-value-requires c κs = search needs
-
 returns : tie.Need-returns
 returns c = read32 (subst (λ (x : ℤ). SFits w32 x) (sym (is c)) (c .before .before .pre)) ∙ is c
 
 pub value-spec : {M : Type 1} → statement M
-value-spec = tie.close (tie.spec value-requires returns)
+value-spec = tie.close (tie.spec (λ c κs. search needs) returns)

@@ -23,42 +23,15 @@ fine c = sym (c .before .before .room-for .ensures) ∙ c .enum-told .given .1
 room : (c : tie.After-enum-told) → Room (c .before .before .before .before .before .span .result) (c .before .before .before .before .before .before .before .before .args .ind .now) (c .before .before .before .before .before .before .before .before .args .val .now)
 room c = room-of (c .before .before .before .before .before .span .result) (c .before .before .before .before .before .before .before .before .args .ind .now) (c .before .before .before .before .before .before .before .before .args .val .now) (fine c)
 
-span-requires : tie.Need-span-requires
-span-requires c κs = search needs
-
-room-for-requires : tie.Need-room-for-requires
-room-for-requires c κs = search needs
-
-enum-known-why : tie.Need-enum-known-why
-enum-known-why c = search needs
-
-enum-told : tie.Need-enum-told
-enum-told c = search needs
-
 cast-m : tie.Need-cast-m
 cast-m c = record { fits = omega (arith, room c .narrow) }
 
 fill-requires : tie.Need-fill-requires
 fill-requires c κs = (room (c .before .before) .in-ind, room (c .before .before) .in-val)
 
-whole-requires : tie.Need-whole-requires
-whole-requires c κs = search needs
-
-same-length : tie.Need-same-length
-same-length c = search needs
-
-same-length-2 : tie.Need-same-length-2
-same-length-2 c = search needs
-
 returns : tie.Need-returns
 unfolding betweenOf
 returns c = rw (ap (λ (n : ℕ). roomFor n (c .before .before .before .before .before .before .before .before .before .args .ind .now) (c .before .before .before .before .before .before .before .before .before .args .val .now)) (sym (n-is (c .before .before .before .before .before .before))) ∙ sym (c .before .before .before .room-for .ensures) ∙ c .before .why .given .1)
-
-same-length-3 : tie.Need-same-length-3
-same-length-3 c = search needs
-
-same-length-4 : tie.Need-same-length-4
-same-length-4 c = search needs
 
 returns-2 : tie.Need-returns-2
 unfolding betweenOf
@@ -74,16 +47,16 @@ pub between-spec : {M : Type 1} → statement M
 between-spec =
     tie.close
     (tie.spec
-    span-requires
-    room-for-requires
-    enum-known-why
-    enum-told
+    (λ c κs. search needs)
+    (λ c κs. search needs)
+    (λ c. search needs)
+    (λ c. search needs)
     cast-m
     fill-requires
-    whole-requires
-    same-length
-    same-length-2
+    (λ c κs. search needs)
+    (λ c. search needs)
+    (λ c. search needs)
     returns
-    same-length-3
-    same-length-4
+    (λ c. search needs)
+    (λ c. search needs)
     returns-2)

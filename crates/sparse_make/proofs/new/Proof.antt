@@ -18,27 +18,9 @@ b-fits s = search needs
 test : (s : tie.Start) → ltZ (s .args .b .0) (s .args .a .0) ≡ ltZ (toZ w32 (ofZ w32 (s .args .b .0))) (toZ w32 (ofZ w32 (s .args .a .0)))
 test s = λ i. ltZ (sym (toZ-ofZ (b-fits s)) i) (sym (toZ-ofZ (a-fits s)) i)
 
-between-requires : tie.Need-between-requires
-between-requires c κs = search needs
-
-same-length : tie.Need-same-length
-same-length c = search needs
-
-same-length-2 : tie.Need-same-length-2
-same-length-2 c = search needs
-
 returns : tie.Need-returns
 unfolding newOf
 returns c = let s = c .before .before .before .before .before .before .before .before .before .before .before .before .before .before .before .before in rw (test s ∙ c .before .before .before .before .before .before .before .before .before .if1 .taken) (c .before .before .before .before .between .ensures ∙ (λ i. betweenOf (toZ-ofZ (b-fits s) i) (toZ-ofZ (a-fits s) i) (s .args .ind .now) (s .args .val .now)))
-
-between-requires-2 : tie.Need-between-requires-2
-between-requires-2 c κs = search needs
-
-same-length-3 : tie.Need-same-length-3
-same-length-3 c = search needs
-
-same-length-4 : tie.Need-same-length-4
-same-length-4 c = search needs
 
 returns-2 : tie.Need-returns-2
 unfolding newOf
@@ -48,11 +30,11 @@ pub new-spec : {M : Type 1} → statement M
 new-spec =
     tie.close
     (tie.spec
-    between-requires
-    same-length
-    same-length-2
+    (λ c κs. search needs)
+    (λ c. search needs)
+    (λ c. search needs)
     returns
-    between-requires-2
-    same-length-3
-    same-length-4
+    (λ c κs. search needs)
+    (λ c. search needs)
+    (λ c. search needs)
     returns-2)

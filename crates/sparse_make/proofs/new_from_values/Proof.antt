@@ -40,9 +40,6 @@ room c = room-of (c .before .before .before .before .before .span .result) (c .b
 begun : (c : tie.After-whole2) → full (c .whole2 .result) (c .before .before .before .before .before .fill .last .0) (c .before .before .before .before .before .fill .last .1 .0) ≡ filled (c .before .before .before .before .before .before .before .before .before .before .before .before .before .before .before .smallest .result) (c .before .before .before .before .before .before .before .before .before .before .before .before .before .span .result) (c .before .before .before .before .before .before .before .before .before .before .before .before .before .before .before .before .before .before .before .args .ind .now) (c .before .before .before .before .before .before .before .before .before .before .before .before .before .before .before .before .before .before .before .args .val .now)
 begun c = (λ i. full ((c .whole2 .ensures ∙ ap (λ (z : ℤ). whole z (c .before .before .before .before .before .before .before .before .before .before .before .before .before .span .result)) (toZ-ofZ (lo-fits (c .before .before .before .before .before .before .before .before .before .before .before .before .before .before .before)))) i) (c .before .before .before .before .before .fill .ensures .0 i) (c .before .before .before .before .before .fill .ensures .1 i))
 
-whole-requires : tie.Need-whole-requires
-whole-requires c κs = search needs
-
 returns : tie.Need-returns
 returns c =
     let s = c .before .before .before .before in
@@ -54,38 +51,17 @@ smallest-requires c κs = omega (arith, c .if1 .left)
 largest-requires : tie.Need-largest-requires
 largest-requires c κs = omega (arith, c .before .if1 .left)
 
-span-requires : tie.Need-span-requires
-span-requires c κs = search needs
-
-room-for-requires : tie.Need-room-for-requires
-room-for-requires c κs = search needs
-
-enum-known-why : tie.Need-enum-known-why
-enum-known-why c = search needs
-
-enum-told : tie.Need-enum-told
-enum-told c = search needs
-
 cast-m : tie.Need-cast-m
 cast-m c = record { fits = omega (arith, room c .narrow) }
 
 fill-requires : tie.Need-fill-requires
 fill-requires c κs = (room (c .before .before) .in-ind, room (c .before .before) .in-val)
 
-whole-requires-2 : tie.Need-whole-requires-2
-whole-requires-2 c κs = search needs
-
 sift-requires : tie.Need-sift-requires
 sift-requires c κs =
     let s = c .before .before .before .before .before .before .before .before .before .before .before .before .before .before .before .before .before .before .before .before .before in
     let sp = c .before .before .before .before .before .before .before .before .before .before .before .before .before .before .before in
     subst WellF (sym (begun (c .before .before))) (filled-well (sp .before .before .smallest .result) (sp .span .result) (s .args .ind .now) (s .args .val .now) (room (c .before .before .before .before .before .before .before .before .before .before)) (rw (sp-is sp) (span-far (sp .before .before .smallest .result) (sp .before .largest .result) (lo-fits (sp .before .before)) (hi-fits (sp .before)))))
-
-same-length : tie.Need-same-length
-same-length c = search needs
-
-same-length-2 : tie.Need-same-length-2
-same-length-2 c = search needs
 
 returns-2 : tie.Need-returns-2
 returns-2 c =
@@ -96,12 +72,6 @@ returns-2 c =
     let n = c .before .before .before .before .before .before .span .result in
     let e : roomFor n ind val ≡ _ = sym (c .before .before .before .room-for .ensures) ∙ c .before .why .given .1 in
     sym (from-some ind val vs n (c .before .before .before .before .before .before .before .before .before .if1 .left) (n-is (c .before .before .before .before .before .before)) ∙ ap (λ (w : Verdict). unless w ind val (siftedOf vs (filled (smallestOf vs) n ind val))) e)
-
-same-length-3 : tie.Need-same-length-3
-same-length-3 c = search needs
-
-same-length-4 : tie.Need-same-length-4
-same-length-4 c = search needs
 
 returns-3 : tie.Need-returns-3
 returns-3 c =
@@ -117,21 +87,21 @@ pub new-from-values-spec : {M : Type 1} → statement M
 new-from-values-spec =
     tie.close
     (tie.spec
-    whole-requires
+    (λ c κs. search needs)
     returns
     smallest-requires
     largest-requires
-    span-requires
-    room-for-requires
-    enum-known-why
-    enum-told
+    (λ c κs. search needs)
+    (λ c κs. search needs)
+    (λ c. search needs)
+    (λ c. search needs)
     cast-m
     fill-requires
-    whole-requires-2
+    (λ c κs. search needs)
     sift-requires
-    same-length
-    same-length-2
+    (λ c. search needs)
+    (λ c. search needs)
     returns-2
-    same-length-3
-    same-length-4
+    (λ c. search needs)
+    (λ c. search needs)
     returns-3)

@@ -14,18 +14,9 @@ a-fits s = search needs
 b-fits : (s : tie.Start) → SFits w32 (s .args .b .0)
 b-fits s = search needs
 
-between-requires : tie.Need-between-requires
-between-requires c κs = search needs
-
-same-length : tie.Need-same-length
-same-length c = search needs
-
-same-length-2 : tie.Need-same-length-2
-same-length-2 c = search needs
-
 returns : tie.Need-returns
 unfolding newUncheckedOf
 returns c = let s = c .before .before .before .before .before .before .before .before .before .before .before in c .before .before .before .before .between .ensures ∙ (λ i. betweenOf (toZ-ofZ (a-fits s) i) (toZ-ofZ (b-fits s) i) (s .args .ind .now) (s .args .val .now))
 
 pub new-unchecked-spec : {M : Type 1} → statement M
-new-unchecked-spec = tie.close (tie.spec between-requires same-length same-length-2 returns)
+new-unchecked-spec = tie.close (tie.spec (λ c κs. search needs) (λ c. search needs) (λ c. search needs) returns)

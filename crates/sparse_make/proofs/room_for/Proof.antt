@@ -5,9 +5,6 @@ use borrow.Author.Needs.{needs}
 use Rattle.sparse_make.proofs.room_for.Statement.{statement}
 use Rattle.sparse_make.proofs.room_for.Tie as tie
 
-cast-if1 : tie.Need-cast-if1
-cast-if1 c = search needs
-
 returns : tie.Need-returns
 unfolding roomFor
 returns c = simp (lt-leb _ _ (c .if1 .taken))
@@ -25,4 +22,4 @@ unfolding roomFor
 returns-4 c = simp (le-leb _ _ (c .before .before .if1 .left), le-leb _ _ (c .before .if2 .left), le-leb _ _ (c .if3 .left))
 
 pub room-for-spec : {M : Type 1} → statement M
-room-for-spec = tie.close (tie.spec cast-if1 returns returns-2 returns-3 returns-4)
+room-for-spec = tie.close (tie.spec (λ c. search needs) returns returns-2 returns-3 returns-4)

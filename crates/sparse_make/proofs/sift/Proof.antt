@@ -65,38 +65,11 @@ seen c = c .has-bit .ensures
 loop-holds : tie.Need-loop-holds Inv-loop μ-loop Inv-loop2 μ-loop2
 loop-holds c = marks-none (c .before .before .args .s) (c .before .before .args .values .now)
 
-mul-t13 : tie.Need-mul-t13 Inv-loop μ-loop Inv-loop2 μ-loop2
-mul-t13 c = search needs
-
-shared-slice-copy-out-t16 : tie.Need-shared-slice-copy-out-t16 Inv-loop μ-loop Inv-loop2 μ-loop2
-shared-slice-copy-out-t16 c = search needs
-
-place-requires : tie.Need-place-requires Inv-loop μ-loop Inv-loop2 μ-loop2
-place-requires c κs = search needs
-
-cast-k : tie.Need-cast-k Inv-loop μ-loop Inv-loop2 μ-loop2
-cast-k c = search needs
-
-mul-with-bit : tie.Need-mul-with-bit Inv-loop μ-loop Inv-loop2 μ-loop2
-mul-with-bit c = search needs
-
 array-read-with-bit : tie.Need-array-read-with-bit Inv-loop μ-loop Inv-loop2 μ-loop2
 array-read-with-bit c = omega (arith, c .before .before .before .before .before .before .before .pre .narrow, c .if1 .taken)
 
-with-bit-requires : tie.Need-with-bit-requires Inv-loop μ-loop Inv-loop2 μ-loop2
-with-bit-requires c κs = search needs
-
-mul-among : tie.Need-mul-among Inv-loop μ-loop Inv-loop2 μ-loop2
-mul-among c = search needs
-
 array-write-among : tie.Need-array-write-among Inv-loop μ-loop Inv-loop2 μ-loop2
 array-write-among c = omega (arith, c .before .before .before .before .before .before .before .before .pre .narrow, c .before .if1 .taken)
-
-add-i : tie.Need-add-i Inv-loop μ-loop Inv-loop2 μ-loop2
-add-i c = omega arith
-
-loop-less : tie.Need-loop-less Inv-loop μ-loop Inv-loop2 μ-loop2
-loop-less c = omega arith
 
 loop-again : tie.Need-loop-again Inv-loop μ-loop Inv-loop2 μ-loop2
 loop-again c =
@@ -112,26 +85,11 @@ loop-again c =
 loop2-holds : tie.Need-loop2-holds Inv-loop μ-loop Inv-loop2 μ-loop2
 loop2-holds c = record { le = omega arith; is = where-none (absent (c .before .before .before .before .args .values .now) (c .before .before .before .before .args .s)) (full (c .before .before .before .before .args .s) (c .before .before .before .before .args .ind .now) (c .before .before .before .before .args .val .now)) 0 0 refl; well = c .before .before .before .before .pre; len-ind = refl; len-val = refl }
 
-cast-k-2 : tie.Need-cast-k-2 Inv-loop μ-loop Inv-loop2 μ-loop2
-cast-k-2 c = search needs
-
-mul-has-bit : tie.Need-mul-has-bit Inv-loop μ-loop Inv-loop2 μ-loop2
-mul-has-bit c = search needs
-
 array-read-has-bit : tie.Need-array-read-has-bit Inv-loop μ-loop Inv-loop2 μ-loop2
 array-read-has-bit c = omega (arith, c .before .before .before .before .before .before .pre .narrow, c .loop2-test .taken)
 
-has-bit-requires : tie.Need-has-bit-requires Inv-loop μ-loop Inv-loop2 μ-loop2
-has-bit-requires c κs = search needs
-
 drop-at-requires : tie.Need-drop-at-requires Inv-loop μ-loop Inv-loop2 μ-loop2
 drop-at-requires c κs = c .before .before .before .before .before .loop2 .inv .well
-
-add-o : tie.Need-add-o Inv-loop μ-loop Inv-loop2 μ-loop2
-add-o c = omega arith
-
-loop2-less : tie.Need-loop2-less Inv-loop μ-loop Inv-loop2 μ-loop2
-loop2-less c = omega arith
 
 loop2-again : tie.Need-loop2-again Inv-loop μ-loop Inv-loop2 μ-loop2
 loop2-again c =
@@ -186,26 +144,26 @@ sift-spec =
     Inv-loop2
     μ-loop2
     loop-holds
-    mul-t13
-    shared-slice-copy-out-t16
-    place-requires
-    cast-k
-    mul-with-bit
+    (λ c. search needs)
+    (λ c. search needs)
+    (λ c κs. search needs)
+    (λ c. search needs)
+    (λ c. search needs)
     array-read-with-bit
-    with-bit-requires
-    mul-among
+    (λ c κs. search needs)
+    (λ c. search needs)
     array-write-among
-    add-i
-    loop-less
+    (λ c. omega arith)
+    (λ c. omega arith)
     loop-again
     loop2-holds
-    cast-k-2
-    mul-has-bit
+    (λ c. search needs)
+    (λ c. search needs)
     array-read-has-bit
-    has-bit-requires
+    (λ c κs. search needs)
     drop-at-requires
-    add-o
-    loop2-less
+    (λ c. omega arith)
+    (λ c. omega arith)
     loop2-again
     same-length
     same-length-2

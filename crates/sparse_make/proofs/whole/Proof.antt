@@ -10,11 +10,5 @@ use Rattle.sparse_make.proofs.whole.Tie as tie
 returns : tie.Need-returns
 returns c = ap (λ (z : ℤ). whole z 0) (toZ-ofZ (c .before .fits .lo)) ∙ ap (whole (c .before .args .lo)) (sym (c .if1 .taken))
 
-sub-t4 : tie.Need-sub-t4
-sub-t4 c = search needs
-
-returns-2 : tie.Need-returns-2
-returns-2 c = search needs
-
 pub whole-spec : {M : Type 1} → statement M
-whole-spec = tie.close (tie.spec returns sub-t4 returns-2)
+whole-spec = tie.close (tie.spec returns (λ c. search needs) (λ c. search needs))

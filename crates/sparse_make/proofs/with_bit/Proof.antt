@@ -6,11 +6,8 @@ use borrow.Author.Needs.{needs}
 use Rattle.sparse_make.proofs.with_bit.Statement.{statement}
 use Rattle.sparse_make.proofs.with_bit.Tie as tie
 
-shl-result : tie.Need-shl-result
-shl-result c = search needs
-
 returns : tie.Need-returns
 returns c = ap (bitOr (c .args .w)) (shl-one (c .args .j) (c .pre))
 
 pub with-bit-spec : {M : Type 1} → statement M
-with-bit-spec = tie.close (tie.spec shl-result returns)
+with-bit-spec = tie.close (tie.spec (λ c. search needs) returns)

@@ -37,29 +37,14 @@ off-fits s = search needs
 loop-holds : tie.Need-loop-holds Inv-loop μ-loop
 loop-holds c = record { rest = refl; well = c .before .before .before .before .pre .0; len-ind = refl; len-val = refl }
 
-cast-value : tie.Need-cast-value Inv-loop μ-loop
-cast-value c = search needs
-
-mul-value : tie.Need-mul-value Inv-loop μ-loop
-mul-value c = search needs
-
 shared-slice-read-value : tie.Need-shared-slice-read-value Inv-loop μ-loop
 shared-slice-read-value c = omega (arith, c .before .before .before .before .before .before .before .pre .1 .within, c .before .before .before .before .before .before .before .pre .1 .room-val, c .before .loop-test .taken)
 
 value-requires : tie.Need-value-requires Inv-loop μ-loop
 value-requires c κs = cell-fits (ft (c .before .before .before .before .before .before .before)) (c .before .before .before .before .before .before .before .pre .1) (off-fits (c .before .before .before .before .before .before .before)) (c .before .before .loop .k) (c .before .loop-test .taken)
 
-place-requires : tie.Need-place-requires Inv-loop μ-loop
-place-requires c κs = search needs
-
 add-at-requires : tie.Need-add-at-requires Inv-loop μ-loop
 add-at-requires c κs = c .before .before .before .before .before .before .loop .inv .well
-
-add-k : tie.Need-add-k Inv-loop μ-loop
-add-k c = omega arith
-
-loop-less : tie.Need-loop-less Inv-loop μ-loop
-loop-less c = omega arith
 
 loop-again : tie.Need-loop-again Inv-loop μ-loop
 loop-again c =
@@ -95,14 +80,14 @@ add-each-spec =
     Inv-loop
     μ-loop
     loop-holds
-    cast-value
-    mul-value
+    (λ c. search needs)
+    (λ c. search needs)
     shared-slice-read-value
     value-requires
-    place-requires
+    (λ c κs. search needs)
     add-at-requires
-    add-k
-    loop-less
+    (λ c. omega arith)
+    (λ c. omega arith)
     loop-again
     same-length
     same-length-2

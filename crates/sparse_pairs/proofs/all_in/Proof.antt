@@ -40,12 +40,6 @@ seen c = c .has .ensures ∙ ap (isHeld (ft (c .before .before .before .before .
 loop-holds : tie.Need-loop-holds Inv-loop μ-loop
 loop-holds c = refl
 
-cast-value : tie.Need-cast-value Inv-loop μ-loop
-cast-value c = search needs
-
-mul-value : tie.Need-mul-value Inv-loop μ-loop
-mul-value c = search needs
-
 shared-slice-read-value : tie.Need-shared-slice-read-value Inv-loop μ-loop
 shared-slice-read-value c = omega (arith, c .before .before .before .before .before .before .before .pre .0 .within, c .before .before .before .before .before .before .before .pre .0 .room-val, c .before .loop-test .taken)
 
@@ -59,12 +53,6 @@ returns : tie.Need-returns Inv-loop μ-loop
 returns c =
     let s = c .before .before .before .before .before .before .before .before .before .before in
     sym (sym (c .before .before .before .before .before .loop .inv) ∙ ap (every (isHeld (ft s))) (here (c .before)) ∙ every-no (isHeld (ft s)) (valueAt (s .args .s) (getD (s .args .val .now) (c .before .before .before .before .before .loop .k) 0)) (drop (c .before .before .before .before .before .loop .k + 1) (setOf (fs s))) (sym (seen (c .before)) ∙ not-true _ (c .if1 .taken)))
-
-add-k : tie.Need-add-k Inv-loop μ-loop
-add-k c = omega arith
-
-loop-less : tie.Need-loop-less Inv-loop μ-loop
-loop-less c = omega arith
 
 loop-again : tie.Need-loop-again Inv-loop μ-loop
 loop-again c =
@@ -83,13 +71,13 @@ all-in-spec =
     Inv-loop
     μ-loop
     loop-holds
-    cast-value
-    mul-value
+    (λ c. search needs)
+    (λ c. search needs)
     shared-slice-read-value
     value-requires
     has-requires
     returns
-    add-k
-    loop-less
+    (λ c. omega arith)
+    (λ c. omega arith)
     loop-again
     returns-2)

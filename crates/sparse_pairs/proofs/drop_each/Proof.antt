@@ -35,23 +35,11 @@ el c = search needs
 loop-holds : tie.Need-loop-holds Inv-loop μ-loop
 loop-holds c = record { rest = refl; well = c .before .before .pre .0; len-ind = refl; len-val = refl }
 
-mul-t14 : tie.Need-mul-t14 Inv-loop μ-loop
-mul-t14 c = search needs
-
 shared-slice-copy-out-t16 : tie.Need-shared-slice-copy-out-t16 Inv-loop μ-loop
 shared-slice-copy-out-t16 c = omega (arith, c .before .before .before .before .before .before .pre .1, c .before .before .loop-test .taken)
 
-place-requires : tie.Need-place-requires Inv-loop μ-loop
-place-requires c κs = search needs
-
 drop-at-requires : tie.Need-drop-at-requires Inv-loop μ-loop
 drop-at-requires c κs = c .before .before .before .before .before .loop .inv .well
-
-add-i : tie.Need-add-i Inv-loop μ-loop
-add-i c = omega arith
-
-loop-less : tie.Need-loop-less Inv-loop μ-loop
-loop-less c = omega arith
 
 loop-again : tie.Need-loop-again Inv-loop μ-loop
 loop-again c =
@@ -88,12 +76,12 @@ drop-each-spec =
     Inv-loop
     μ-loop
     loop-holds
-    mul-t14
+    (λ c. search needs)
     shared-slice-copy-out-t16
-    place-requires
+    (λ c κs. search needs)
     drop-at-requires
-    add-i
-    loop-less
+    (λ c. omega arith)
+    (λ c. omega arith)
     loop-again
     same-length
     same-length-2

@@ -22,15 +22,6 @@ fine c = sym (c .before .before .check-both .ensures) ∙ c .enum-told .given .1
 well : (c : tie.After-enum-told) → WellF (fs (c .before .before .before .before .before .before .before)) × WellF (ft (c .before .before .before .before .before .before .before))
 well c = both-of (fs (c .before .before .before .before .before .before .before)) (ft (c .before .before .before .before .before .before .before)) (fine c)
 
-check-both-requires : tie.Need-check-both-requires
-check-both-requires c κs = search needs
-
-enum-known-why : tie.Need-enum-known-why
-enum-known-why c = search needs
-
-enum-told : tie.Need-enum-told
-enum-told c = search needs
-
 returns : tie.Need-returns
 unfolding equalsOf
 returns c = rw (fine (c .before .before .before), ne-eqb (c .before .before .before .before .before .before .before .before .before .before .args .s .size) (c .before .before .before .before .before .before .before .before .before .before .args .t .size) (c .if1 .taken))
@@ -50,9 +41,9 @@ pub equals-spec : {M : Type 1} → statement M
 equals-spec =
     tie.close
     (tie.spec
-    check-both-requires
-    enum-known-why
-    enum-told
+    (λ c κs. search needs)
+    (λ c. search needs)
+    (λ c. search needs)
     returns
     all-in-requires
     returns-2

@@ -65,12 +65,6 @@ v-is c = toZ-ofZ (v-fits c) ∙ c .before .value .ensures
 loop-holds : tie.Need-loop-holds Inv-loop μ-loop
 loop-holds c = record { le = omega arith; few = omega arith; len = refl; is = refl }
 
-cast-value : tie.Need-cast-value Inv-loop μ-loop
-cast-value c = search needs
-
-mul-value : tie.Need-mul-value Inv-loop μ-loop
-mul-value c = search needs
-
 shared-slice-read-value : tie.Need-shared-slice-read-value Inv-loop μ-loop
 shared-slice-read-value c = omega (arith, c .before .before .before .before .before .before .before .pre .0 .within, c .before .before .before .before .before .before .before .pre .0 .room-val, c .before .loop-test .taken)
 
@@ -80,20 +74,11 @@ value-requires c κs = cell-fits (fs (c .before .before .before .before .before 
 has-requires : tie.Need-has-requires Inv-loop μ-loop
 has-requires c κs = c .before .before .before .before .before .before .before .before .pre .1 .0
 
-mul-x : tie.Need-mul-x Inv-loop μ-loop
-mul-x c = search needs
-
 slice-set-from-x : tie.Need-slice-set-from-x Inv-loop μ-loop
 slice-set-from-x c = omega (arith, room (c .before .before .before .before .before .before), c .before .before .before .before .before .before .loop .inv .few, c .before .before .before .before .before .loop-test .taken, c .before .before .before .before .before .before .before .before .before .before .before .pre .1 .1)
 
 add-m : tie.Need-add-m Inv-loop μ-loop
 add-m c = omega (arith, room (c .before .before .before .before .before .before), c .before .before .before .before .before .before .loop .inv .few, c .before .before .before .before .before .loop-test .taken, c .before .before .before .before .before .before .before .before .before .before .before .pre .1 .1)
-
-add-k : tie.Need-add-k Inv-loop μ-loop
-add-k c = omega arith
-
-loop-less : tie.Need-loop-less Inv-loop μ-loop
-loop-less c = omega arith
 
 loop-again : tie.Need-loop-again Inv-loop μ-loop
 loop-again c =
@@ -144,16 +129,16 @@ gather-spec =
     Inv-loop
     μ-loop
     loop-holds
-    cast-value
-    mul-value
+    (λ c. search needs)
+    (λ c. search needs)
     shared-slice-read-value
     value-requires
     has-requires
-    mul-x
+    (λ c. search needs)
     slice-set-from-x
     add-m
-    add-k
-    loop-less
+    (λ c. omega arith)
+    (λ c. omega arith)
     loop-again
     same-length
     returns)

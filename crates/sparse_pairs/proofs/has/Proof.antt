@@ -5,15 +5,9 @@ use borrow.Author.Needs.{needs}
 use Rattle.sparse_pairs.proofs.has.Statement.{statement}
 use Rattle.sparse_pairs.proofs.has.Tie as tie
 
-place-requires : tie.Need-place-requires
-place-requires c κs = search needs
-
-holds-requires : tie.Need-holds-requires
-holds-requires c κs = search needs
-
 returns : tie.Need-returns
 unfolding isHeld
 returns c = c .holds .ensures ∙ ap (heldB (c .before .before .before .before .args .tind .now) (c .before .before .before .before .args .t .n) (c .before .before .before .before .args .t .size)) (c .before .place .ensures)
 
 pub has-spec : {M : Type 1} → statement M
-has-spec = tie.close (tie.spec place-requires holds-requires returns)
+has-spec = tie.close (tie.spec (λ c κs. search needs) (λ c κs. search needs) returns)

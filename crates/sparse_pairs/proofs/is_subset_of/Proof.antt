@@ -21,15 +21,6 @@ fine c = sym (c .before .before .check-both .ensures) ∙ c .enum-told .given .1
 well : (c : tie.After-enum-told) → WellF (fs (c .before .before .before .before .before .before .before)) × WellF (ft (c .before .before .before .before .before .before .before))
 well c = both-of (fs (c .before .before .before .before .before .before .before)) (ft (c .before .before .before .before .before .before .before)) (fine c)
 
-check-both-requires : tie.Need-check-both-requires
-check-both-requires c κs = search needs
-
-enum-known-why : tie.Need-enum-known-why
-enum-known-why c = search needs
-
-enum-told : tie.Need-enum-told
-enum-told c = search needs
-
 all-in-requires : tie.Need-all-in-requires
 all-in-requires c κs = well c
 
@@ -44,4 +35,4 @@ returns-2 c = rw (fine (c .before)) (ap Is (c .all-in .ensures))
 pub is-subset-of-spec : {M : Type 1} → statement M
 is-subset-of-spec =
     tie.close
-    (tie.spec check-both-requires enum-known-why enum-told all-in-requires returns returns-2)
+    (tie.spec (λ c κs. search needs) (λ c. search needs) (λ c. search needs) all-in-requires returns returns-2)

@@ -35,24 +35,6 @@ gone s = parted (fs s) (ft s) (s .args .want)
 short : (c : tie.After-gather) → length (gone (c .before .before .before .before .before .before .before .before .before .before .before .before .before .before .before)) ≤ length (c .before .before .before .before .before .before .before .before .before .before .before .before .before .before .before .args .scratch .now)
 short c = omega (arith, parted-short (fs (c .before .before .before .before .before .before .before .before .before .before .before .before .before .before .before)) (ft (c .before .before .before .before .before .before .before .before .before .before .before .before .before .before .before)) (c .before .before .before .before .before .before .before .before .before .before .before .before .before .before .before .args .want) (well-room (fs (c .before .before .before .before .before .before .before .before .before .before .before .before .before .before .before)) (well (c .before .before .before .before .before .before) .0)), c .before .before .before .before .if1 .left)
 
-check-both-requires : tie.Need-check-both-requires
-check-both-requires c κs = search needs
-
-enum-known-why : tie.Need-enum-known-why
-enum-known-why c = search needs
-
-enum-told : tie.Need-enum-told
-enum-told c = search needs
-
-cast-if1 : tie.Need-cast-if1
-cast-if1 c = search needs
-
-same-length : tie.Need-same-length
-same-length c = search needs
-
-same-length-2 : tie.Need-same-length-2
-same-length-2 c = search needs
-
 returns : tie.Need-returns
 unfolding partOf
 returns c = rw (fine (c .before .before), lt-ltb _ _ (c .if1 .taken))
@@ -63,24 +45,9 @@ gather-requires c κs = (well (c .before .before .before .before .before) .0, (w
 drop-each-requires : tie.Need-drop-each-requires
 drop-each-requires c κs = (well (c .before .before .before .before .before .before .before .before .before .before) .0, omega (arith, c .before .before .before .before .gather .ensures .0, short (c .before .before .before .before), ap length (c .before .before .before .before .gather .ensures .1), length-over (gone (c .before .before .before .before .before .before .before .before .before .before .before .before .before .before .before .before .before .before .before)) (c .before .before .before .before .before .before .before .before .before .before .before .before .before .before .before .before .before .before .before .args .scratch .now) (short (c .before .before .before .before))))
 
-same-length-3 : tie.Need-same-length-3
-same-length-3 c = search needs
-
-same-length-4 : tie.Need-same-length-4
-same-length-4 c = search needs
-
 returns-2 : tie.Need-returns-2
 unfolding partOf
 returns-2 c = rw (sym (c .before .before .before .check-both .ensures) ∙ c .before .why .given .1)
-
-same-length-5 : tie.Need-same-length-5
-same-length-5 c = search needs
-
-same-length-6 : tie.Need-same-length-6
-same-length-6 c = search needs
-
-same-length-7 : tie.Need-same-length-7
-same-length-7 c = search needs
 
 returns-3 : tie.Need-returns-3
 unfolding partOf
@@ -94,19 +61,19 @@ pub part-spec : {M : Type 1} → statement M
 part-spec =
     tie.close
     (tie.spec
-    check-both-requires
-    enum-known-why
-    enum-told
-    cast-if1
-    same-length
-    same-length-2
+    (λ c κs. search needs)
+    (λ c. search needs)
+    (λ c. search needs)
+    (λ c. search needs)
+    (λ c. search needs)
+    (λ c. search needs)
     returns
     gather-requires
     drop-each-requires
-    same-length-3
-    same-length-4
+    (λ c. search needs)
+    (λ c. search needs)
     returns-2
-    same-length-5
-    same-length-6
-    same-length-7
+    (λ c. search needs)
+    (λ c. search needs)
+    (λ c. search needs)
     returns-3)

@@ -22,33 +22,12 @@ fine c = sym (c .before .before .check-both .ensures) ∙ c .enum-told .given .1
 well : (c : tie.After-enum-told) → WellF (fs (c .before .before .before .before .before .before .before .before .before)) × WellF (ft (c .before .before .before .before .before .before .before .before .before))
 well c = both-of (fs (c .before .before .before .before .before .before .before .before .before)) (ft (c .before .before .before .before .before .before .before .before .before)) (fine c)
 
-check-both-requires : tie.Need-check-both-requires
-check-both-requires c κs = search needs
-
-enum-known-why : tie.Need-enum-known-why
-enum-known-why c = search needs
-
-enum-told : tie.Need-enum-told
-enum-told c = search needs
-
 add-each-requires : tie.Need-add-each-requires
 add-each-requires c κs = well (c .before .before)
-
-same-length : tie.Need-same-length
-same-length c = search needs
-
-same-length-2 : tie.Need-same-length-2
-same-length-2 c = search needs
 
 returns : tie.Need-returns
 unfolding unionOf
 returns c = rw (sym (c .before .before .before .check-both .ensures) ∙ c .before .why .given .1)
-
-same-length-3 : tie.Need-same-length-3
-same-length-3 c = search needs
-
-same-length-4 : tie.Need-same-length-4
-same-length-4 c = search needs
 
 returns-2 : tie.Need-returns-2
 unfolding unionOf
@@ -58,13 +37,13 @@ pub union-with-spec : {M : Type 1} → statement M
 union-with-spec =
     tie.close
     (tie.spec
-    check-both-requires
-    enum-known-why
-    enum-told
+    (λ c κs. search needs)
+    (λ c. search needs)
+    (λ c. search needs)
     add-each-requires
-    same-length
-    same-length-2
+    (λ c. search needs)
+    (λ c. search needs)
     returns
-    same-length-3
-    same-length-4
+    (λ c. search needs)
+    (λ c. search needs)
     returns-2)

@@ -27,36 +27,15 @@ well c = well-of (fu (c .before .before .before .before .before)) (fine c)
 off-fits : (s : tie.Start) → SFits w32 (s .args .s .off)
 off-fits s = search needs
 
-check-requires : tie.Need-check-requires
-check-requires c κs = search needs
-
-enum-known-why : tie.Need-enum-known-why
-enum-known-why c = search needs
-
-enum-told : tie.Need-enum-told
-enum-told c = search needs
-
-past-held-requires : tie.Need-past-held-requires
-past-held-requires c κs = search needs
-
 returns : tie.Need-returns
 unfolding complementNextOf
 returns c = rw (fine (c .before .before .before), le-ltb (pastHeld (c .before .before .before .before .before .before .before .before .args .s .size) (c .before .before .before .before .before .before .before .before .args .c .at)) (c .before .before .before .before .before .before .before .before .args .s .n) (omega (arith, c .if1 .taken, c .before .before .past-held .ensures)))
-
-cast-value : tie.Need-cast-value
-cast-value c = search needs
-
-mul-value : tie.Need-mul-value
-mul-value c = search needs
 
 shared-slice-read-value : tie.Need-shared-slice-read-value
 shared-slice-read-value c = omega (arith, c .before .if1 .left, well (c .before .before .before .before) .room-val)
 
 value-requires : tie.Need-value-requires
 value-requires c κs = value-fits (c .before .before .before .before .before .before .before .before .before .args .s .off) (c .before .before .before .before .before .before .before .before .before .args .s .n) (getD (c .before .before .before .before .before .before .before .before .before .args .val .now) (c .before .before .before .past-held .result) 0) (off-fits (c .before .before .before .before .before .before .before .before .before)) (well (c .before .before .before .before) .universe) (well (c .before .before .before .before) .inverse .val-lt (c .before .before .before .past-held .result) (c .before .if1 .left))
-
-add-t16 : tie.Need-add-t16
-add-t16 c = search needs
 
 returns-2 : tie.Need-returns-2
 unfolding complementNextOf
@@ -74,15 +53,15 @@ pub complement-next-spec : {M : Type 1} → statement M
 complement-next-spec =
     tie.close
     (tie.spec
-    check-requires
-    enum-known-why
-    enum-told
-    past-held-requires
+    (λ c κs. search needs)
+    (λ c. search needs)
+    (λ c. search needs)
+    (λ c κs. search needs)
     returns
-    cast-value
-    mul-value
+    (λ c. search needs)
+    (λ c. search needs)
     shared-slice-read-value
     value-requires
-    add-t16
+    (λ c. search needs)
     returns-2
     returns-3)

@@ -21,18 +21,6 @@ fine c = sym (c .before .before .check .ensures) ∙ c .enum-told .given .1
 well : (c : tie.After-enum-told) → WellF (fu (c .before .before .before .before .before))
 well c = well-of (fu (c .before .before .before .before .before)) (fine c)
 
-check-requires : tie.Need-check-requires
-check-requires c κs = search needs
-
-enum-known-why : tie.Need-enum-known-why
-enum-known-why c = search needs
-
-enum-told : tie.Need-enum-told
-enum-told c = search needs
-
-cast-size : tie.Need-cast-size
-cast-size c = search needs
-
 returns : tie.Need-returns
 unfolding toVecOf
 returns c = rw (fine (c .before .before), lt-ltb _ _ (c .if1 .taken))
@@ -44,9 +32,6 @@ returns-2 : tie.Need-returns-2
 unfolding toVecOf
 returns-2 c = rw (sym (c .before .before .before .check .ensures) ∙ c .before .why .given .1)
 
-same-length : tie.Need-same-length
-same-length c = search needs
-
 returns-3 : tie.Need-returns-3
 unfolding toVecOf
 returns-3 c = rw (fine (c .before .before .before .before .before), le-ltb (length (c .before .before .before .before .before .before .before .before .before .before .args .cells .now)) (c .before .before .before .before .before .before .before .before .before .before .args .s .size) (c .before .before .before .if1 .left)) (λ i. written (Count (c .before .before .before .before .before .before .before .before .before .before .args .s .size)) (c .before .write .ensures i))
@@ -55,12 +40,12 @@ pub to-vec-spec : {M : Type 1} → statement M
 to-vec-spec =
     tie.close
     (tie.spec
-    check-requires
-    enum-known-why
-    enum-told
-    cast-size
+    (λ c κs. search needs)
+    (λ c. search needs)
+    (λ c. search needs)
+    (λ c. search needs)
     returns
     write-requires
     returns-2
-    same-length
+    (λ c. search needs)
     returns-3)

@@ -43,14 +43,8 @@ v-fits c = search needs
 v-is : (c : tie.After-value Inv-loop μ-loop) → toZ w32 (ofZ w32 (c .value .result .0)) ≡ valueAt (c .before .before .before .before .before .before .before .args .s) (getD (c .before .before .before .before .before .before .before .args .val .now) (c .before .before .before .loop .k) 0)
 v-is c = toZ-ofZ (v-fits c) ∙ c .value .ensures
 
-cast-size : tie.Need-cast-size Inv-loop μ-loop
-cast-size c = search needs
-
 loop-holds : tie.Need-loop-holds Inv-loop μ-loop
 loop-holds c = record { le = omega arith; is = refl }
-
-mul-value : tie.Need-mul-value Inv-loop μ-loop
-mul-value c = search needs
 
 shared-slice-read-value : tie.Need-shared-slice-read-value Inv-loop μ-loop
 shared-slice-read-value c = omega (arith, c .before .loop-test .taken, c .before .before .before .before .before .before .pre .0 .within, c .before .before .before .before .before .before .pre .0 .room-val)
@@ -58,17 +52,8 @@ shared-slice-read-value c = omega (arith, c .before .loop-test .taken, c .before
 value-requires : tie.Need-value-requires Inv-loop μ-loop
 value-requires c κs = cell-fits (fu (c .before .before .before .before .before .before)) (c .before .before .before .before .before .before .pre .0) (off-fits (c .before .before .before .before .before .before)) (c .before .before .loop .k) (c .before .loop-test .taken)
 
-mul-x : tie.Need-mul-x Inv-loop μ-loop
-mul-x c = search needs
-
 slice-set-from-x : tie.Need-slice-set-from-x Inv-loop μ-loop
 slice-set-from-x c = omega (arith, room (c .before .before .before .before), c .before .before .before .loop-test .taken, c .before .before .before .before .before .before .before .before .pre .1)
-
-add-k : tie.Need-add-k Inv-loop μ-loop
-add-k c = omega arith
-
-loop-less : tie.Need-loop-less Inv-loop μ-loop
-loop-less c = omega arith
 
 loop-again : tie.Need-loop-again Inv-loop μ-loop
 loop-again c =
@@ -100,15 +85,15 @@ write-spec =
     (tie.spec
     Inv-loop
     μ-loop
-    cast-size
+    (λ c. search needs)
     loop-holds
-    mul-value
+    (λ c. search needs)
     shared-slice-read-value
     value-requires
-    mul-x
+    (λ c. search needs)
     slice-set-from-x
-    add-k
-    loop-less
+    (λ c. omega arith)
+    (λ c. omega arith)
     loop-again
     same-length
     returns)

@@ -30,21 +30,6 @@ abbrev μ-loop : tie.MeasureT-loop
 loop-holds : tie.Need-loop-holds Inv-loop μ-loop
 loop-holds c = (search needs, sym (strike-nothing (valuesOf (toZ w32 (ofZ w32 (c .args .min))) (c .args .m))))
 
-mul-without : tie.Need-mul-without Inv-loop μ-loop
-mul-without c = search needs
-
-element-copy-out-without : tie.Need-element-copy-out-without Inv-loop μ-loop
-element-copy-out-without c = search needs
-
-without-requires : tie.Need-without-requires Inv-loop μ-loop
-without-requires c κs = search needs
-
-add-j : tie.Need-add-j Inv-loop μ-loop
-add-j c = search needs
-
-loop-less : tie.Need-loop-less Inv-loop μ-loop
-loop-less c = search needs
-
 loop-again : tie.Need-loop-again Inv-loop μ-loop
 loop-again c =
     let s = c .before .before .before in
@@ -70,10 +55,10 @@ less-spec =
     Inv-loop
     μ-loop
     loop-holds
-    mul-without
-    element-copy-out-without
-    without-requires
-    add-j
-    loop-less
+    (λ c. search needs)
+    (λ c. search needs)
+    (λ c κs. search needs)
+    (λ c. search needs)
+    (λ c. search needs)
     loop-again
     returns)

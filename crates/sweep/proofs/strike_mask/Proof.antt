@@ -13,15 +13,6 @@ use borrow.Author.Needs.{needs}
 use Rattle.sweep.proofs.strike_mask.Statement.{statement}
 use Rattle.sweep.proofs.strike_mask.Tie as tie
 
-at-requires : tie.Need-at-requires
-at-requires c κs = search needs
-
-minus-requires : tie.Need-minus-requires
-minus-requires c κs = search needs
-
-same-requires : tie.Need-same-requires
-same-requires c κs = search needs
-
 returns : tie.Need-returns
 returns c =
     let p = c .before .before in
@@ -34,12 +25,6 @@ returns c =
     let u = valuesOf lo (a .u) in
     kept u lo (a .q) (a .ms .now) (s .pre .1)
     (subst (λ (x : Mask). strike u (valuesOf lo x) ≡ valuesOf lo x) (p .before .at .ensures) (sym (strike-minus lo m (a .u) e (p .minus .ensures)) ∙ ap (valuesOf lo) same))
-
-put-requires : tie.Need-put-requires
-put-requires c κs = search needs
-
-is-none-requires : tie.Need-is-none-requires
-is-none-requires c κs = search needs
 
 returns-2 : tie.Need-returns-2
 returns-2 c =
@@ -63,10 +48,10 @@ pub strike-mask-spec : {M : Type 1} → statement M
 strike-mask-spec =
     tie.close
     (tie.spec
-    at-requires
-    minus-requires
-    same-requires
+    (λ c κs. search needs)
+    (λ c κs. search needs)
+    (λ c κs. search needs)
     returns
-    put-requires
-    is-none-requires
+    (λ c κs. search needs)
+    (λ c κs. search needs)
     returns-2)

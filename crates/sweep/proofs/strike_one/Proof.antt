@@ -32,12 +32,6 @@ none : (v lo : ℤ) (q : ℕ) (ws : List ℕ) (m : Mask) → m ≡ maskAt ws q �
 none v lo q ws m e r absent =
     kept (v ∷ []) lo q ws r (subst (λ (x : Mask). strike (v ∷ []) (valuesOf lo x) ≡ valuesOf lo x) e (strike-none lo v m absent))
 
-at-requires : tie.Need-at-requires
-at-requires c κs = search needs
-
-place-requires : tie.Need-place-requires
-place-requires c κs = search needs
-
 returns : tie.Need-returns
 returns c =
     let p = c .before in
@@ -45,9 +39,6 @@ returns c =
     let m = p .before .at .result in
     none (s .args .v) (s .args .min) (s .args .q) (s .args .ms .now) m (p .before .at .ensures) (s .pre .1)
     (outside (s .args .min) (s .args .v) m (search needs) (omega (arith, found p)))
-
-has-requires : tie.Need-has-requires
-has-requires c κs = search needs
 
 returns-2 : tie.Need-returns-2
 returns-2 c =
@@ -58,15 +49,6 @@ returns-2 c =
     none (s .args .v) (s .args .min) (s .args .q) (s .args .ms .now) m (p .before .at .ensures) (s .pre .1)
     (not-held (s .args .min) (s .args .v) m k (found p) (search needs)
     (eqb-false (bit (val m) k) 1 (sym (c .before .has .ensures) ∙ not-true (c .before .has .result) (c .if2 .taken))))
-
-without-requires : tie.Need-without-requires
-without-requires c κs = search needs
-
-put-requires : tie.Need-put-requires
-put-requires c κs = search needs
-
-is-none-requires : tie.Need-is-none-requires
-is-none-requires c κs = search needs
 
 returns-3 : tie.Need-returns-3
 returns-3 c =
@@ -91,12 +73,12 @@ pub strike-one-spec : {M : Type 1} → statement M
 strike-one-spec =
     tie.close
     (tie.spec
-    at-requires
-    place-requires
+    (λ c κs. search needs)
+    (λ c κs. search needs)
     returns
-    has-requires
+    (λ c κs. search needs)
     returns-2
-    without-requires
-    put-requires
-    is-none-requires
+    (λ c κs. search needs)
+    (λ c κs. search needs)
+    (λ c κs. search needs)
     returns-3)

@@ -28,12 +28,6 @@ abbrev μ-loop : tie.MeasureT-loop
 loop-holds : tie.Need-loop-holds Inv-loop μ-loop
 loop-holds c = (search needs, left-none (c .args .n) (c .args .ms .now) (c .pre .1), refl)
 
-mul-strike-one : tie.Need-mul-strike-one Inv-loop μ-loop
-mul-strike-one c = search needs
-
-element-copy-out-strike-one : tie.Need-element-copy-out-strike-one Inv-loop μ-loop
-element-copy-out-strike-one c = search needs
-
 strike-one-requires : tie.Need-strike-one-requires Inv-loop μ-loop
 strike-one-requires c κs = (search needs, c .before .before .before .before .loop .inv .1 .room)
 
@@ -50,12 +44,6 @@ returns c =
       left-more (a .n) (i .q) (a .ms .now) (i .ms) (k .strike-one .last .0) u (getD (a .mins .now) (i .q) (pos 0)) (k .strike-one .result) h (i .inv .1) s,
       rw (read32 {z = a .v} (al .before .fits .v)) at (sym e),
     )
-
-add-q : tie.Need-add-q Inv-loop μ-loop
-add-q c = search needs
-
-loop-less : tie.Need-loop-less Inv-loop μ-loop
-loop-less c = search needs
 
 loop-again : tie.Need-loop-again Inv-loop μ-loop
 loop-again c =
@@ -98,11 +86,11 @@ strike-others-spec =
     Inv-loop
     μ-loop
     loop-holds
-    mul-strike-one
-    element-copy-out-strike-one
+    (λ c. search needs)
+    (λ c. search needs)
     strike-one-requires
     returns
-    add-q
-    loop-less
+    (λ c. search needs)
+    (λ c. search needs)
     loop-again
     returns-2)

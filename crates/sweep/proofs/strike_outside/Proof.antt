@@ -26,12 +26,6 @@ abbrev μ-loop : tie.MeasureT-loop
 loop-holds : tie.Need-loop-holds Inv-loop μ-loop
 loop-holds c = (search needs, first-half (c .args .set), left-none (c .args .n) (c .args .ms .now) (c .pre .1), refl)
 
-mul-strike-some : tie.Need-mul-strike-some Inv-loop μ-loop
-mul-strike-some c = search needs
-
-element-copy-out-strike-some : tie.Need-element-copy-out-strike-some Inv-loop μ-loop
-element-copy-out-strike-some c = search needs
-
 strike-some-requires : tie.Need-strike-some-requires Inv-loop μ-loop
 strike-some-requires c κs = (search needs, c .before .before .before .before .loop .inv .2 .room, search needs, search needs)
 
@@ -49,12 +43,6 @@ returns c =
       left-more (a .n) (i .q) (a .ms .now) (i .ms) (k .strike-some .last .0) u (getD (a .mins .now) (i .q) (pos 0)) (k .strike-some .result) h (i .inv .2) s,
       sym (stop m u (sweep m u (listed (a .mins .now) (a .ms .now) (a .n))) (a .mins .now) (a .n) (i .q) (i .changed) (bits-length (a .n) (a .set)) h (i .ms) (i .inv .3) (k .strike-some .last .0) (k .strike-some .result) s out (not-true (k .strike-some .result .consistent) (c .if2 .taken))),
     )
-
-add-q : tie.Need-add-q Inv-loop μ-loop
-add-q c = search needs
-
-loop-less : tie.Need-loop-less Inv-loop μ-loop
-loop-less c = search needs
 
 loop-again : tie.Need-loop-again Inv-loop μ-loop
 loop-again c =
@@ -98,11 +86,11 @@ strike-outside-spec =
     Inv-loop
     μ-loop
     loop-holds
-    mul-strike-some
-    element-copy-out-strike-some
+    (λ c. search needs)
+    (λ c. search needs)
     strike-some-requires
     returns
-    add-q
-    loop-less
+    (λ c. search needs)
+    (λ c. search needs)
     loop-again
     returns-2)

@@ -22,15 +22,6 @@ rest c =
     let s = c .before .before .before in
     subst (λ (z : ℤ). valuesOf z (c .less .result) ≡ strike (take (s .args .r) (s .args .vals .now)) (valuesOf z (c .before .at .result))) (read32 (s .fits .min)) (c .less .ensures)
 
-at-requires : tie.Need-at-requires
-at-requires c κs = search needs
-
-less-requires : tie.Need-less-requires
-less-requires c κs = search needs
-
-same-requires : tie.Need-same-requires
-same-requires c κs = search needs
-
 returns : tie.Need-returns
 returns c =
     let p = c .before .before in
@@ -42,12 +33,6 @@ returns c =
     let u = take (a .r) (a .vals .now) in
     kept u (a .min) (a .q) (a .ms .now) (s .pre .1)
     (subst (λ (x : Mask). strike u (valuesOf (a .min) x) ≡ valuesOf (a .min) x) (p .before .at .ensures) (sym (rest p) ∙ ap (valuesOf (a .min)) same))
-
-put-requires : tie.Need-put-requires
-put-requires c κs = search needs
-
-is-none-requires : tie.Need-is-none-requires
-is-none-requires c κs = search needs
 
 returns-2 : tie.Need-returns-2
 returns-2 c =
@@ -69,10 +54,10 @@ pub strike-some-spec : {M : Type 1} → statement M
 strike-some-spec =
     tie.close
     (tie.spec
-    at-requires
-    less-requires
-    same-requires
+    (λ c κs. search needs)
+    (λ c κs. search needs)
+    (λ c κs. search needs)
     returns
-    put-requires
-    is-none-requires
+    (λ c κs. search needs)
+    (λ c κs. search needs)
     returns-2)

@@ -58,12 +58,6 @@ abbrev μ-loop : tie.MeasureT-loop
 loop-holds : tie.Need-loop-holds Inv-loop μ-loop
 loop-holds c = (search needs, left-none (c .args .n) (c .args .ms .now) (c .pre .1), λ p h. refl, λ mins lo level. refl)
 
-at-requires : tie.Need-at-requires Inv-loop μ-loop
-at-requires c κs = search needs
-
-is-one-requires : tie.Need-is-one-requires Inv-loop μ-loop
-is-one-requires c κs = search needs
-
 strike-mask-requires : tie.Need-strike-mask-requires Inv-loop μ-loop
 strike-mask-requires c κs = (search needs, c .before .before .before .before .before .before .loop .inv .1 .room)
 
@@ -81,12 +75,6 @@ returns c =
       left-more (a .n) (i .q) (a .ms .now) (i .ms) after (valuesOf (pos 0) (a .u)) (pos 0) (k .strike-mask .result) h (i .inv .1) (k .strike-mask .ensures (pos 0)),
       λ mins lo level. sym (e mins lo level),
     )
-
-add-q : tie.Need-add-q Inv-loop μ-loop
-add-q c = search needs
-
-loop-less : tie.Need-loop-less Inv-loop μ-loop
-loop-less c = search needs
 
 loop-again : tie.Need-loop-again Inv-loop μ-loop
 loop-again c =
@@ -135,11 +123,11 @@ strike-unassigned-spec =
     Inv-loop
     μ-loop
     loop-holds
-    at-requires
-    is-one-requires
+    (λ c κs. search needs)
+    (λ c κs. search needs)
     strike-mask-requires
     returns
-    add-q
-    loop-less
+    (λ c. search needs)
+    (λ c. search needs)
     loop-again
     returns-2)

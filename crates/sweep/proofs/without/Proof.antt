@@ -14,16 +14,10 @@ use Rattle.sweep.proofs.without.Tie as tie
 found : (c : tie.After-place) → c .place .result ≡ placeOf offsets (c .before .args .v -ℤ c .before .args .min)
 found c = c .place .ensures ∙ ap (placeOf offsets) (read-diff (c .before .fits .v) (c .before .fits .min))
 
-place-requires : tie.Need-place-requires
-place-requires c κs = search needs
-
 returns : tie.Need-returns
 returns c =
     let a = c .before .before .args in
     sym (strike-none (a .min) (a .v) (a .m) (outside (a .min) (a .v) (a .m) (search needs) (omega (arith, found (c .before)))))
-
-without-requires : tie.Need-without-requires
-without-requires c κs = search needs
 
 returns-2 : tie.Need-returns-2
 returns-2 c =
@@ -32,4 +26,4 @@ returns-2 c =
     strike-at (a .min) (a .v) (a .m) (c .without .result) (s .place .result) (stands (a .min) (a .v) (a .m) (s .place .result) (found s) (search needs)) (c .without .ensures)
 
 pub without-spec : {M : Type 1} → statement M
-without-spec = tie.close (tie.spec place-requires returns without-requires returns-2)
+without-spec = tie.close (tie.spec (λ c κs. search needs) returns (λ c κs. search needs) returns-2)

@@ -5,15 +5,6 @@ use borrow.Author.Needs.{needs}
 use Rattle.trial.proofs.keep.Statement.{statement}
 use Rattle.trial.proofs.keep.Tie as tie
 
-look-requires : tie.Need-look-requires
-look-requires c κs = search needs
-
-fewer-requires : tie.Need-fewer-requires
-fewer-requires c κs = search needs
-
-settle-requires : tie.Need-settle-requires
-settle-requires c κs = search needs
-
 returns : tie.Need-returns
 returns c =
     let b = c .before .before .before .before .before .before .args .b in
@@ -21,4 +12,4 @@ returns c =
     ∙ keep-is b 0 (c .before .before .look .result) (c .before .before .look .ensures)
 
 pub keep-spec : {M : Type 1} → statement M
-keep-spec = tie.close (tie.spec look-requires fewer-requires settle-requires returns)
+keep-spec = tie.close (tie.spec (λ c κs. search needs) (λ c κs. search needs) (λ c κs. search needs) returns)

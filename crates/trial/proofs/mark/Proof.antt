@@ -20,12 +20,6 @@ Inv-loop b rows count saved₀ marks at fine n i₀ saved i = (i ≤ n) × (save
 abbrev μ-loop : tie.MeasureT-loop
 μ-loop b rows count saved₀ marks at fine n i₀ saved i = n - i
 
-look-requires : tie.Need-look-requires Inv-loop μ-loop
-look-requires c κs = search needs
-
-turns-requires : tie.Need-turns-requires Inv-loop μ-loop
-turns-requires c κs = search needs
-
 loop-holds : tie.Need-loop-holds Inv-loop μ-loop
 loop-holds c = (search needs, refl)
 
@@ -46,12 +40,6 @@ array-copy-out-row c = room c .1
 put-requires : tie.Need-put-requires Inv-loop μ-loop
 put-requires c κs = room (c .before .before)
 
-add-i : tie.Need-add-i Inv-loop μ-loop
-add-i c = search needs
-
-loop-less : tie.Need-loop-less Inv-loop μ-loop
-loop-less c = search needs
-
 loop-again : tie.Need-loop-again Inv-loop μ-loop
 loop-again c =
     let s = c .before .before .before .before in
@@ -61,12 +49,6 @@ loop-again c =
           ∙ ap (λ (ws : List ℕ). putAt ws (b .marks) (s .loop .i) (domainAt (b .rows) (s .loop .i) .mask)) (s .loop .inv .1)
           ∙ ap (λ (n : ℕ). saving (b .rows) (b .marks) n (b .saved)) (sym (add-one (s .loop .i))),
     )
-
-deeper-requires : tie.Need-deeper-requires Inv-loop μ-loop
-deeper-requires c κs = search needs
-
-settle-requires : tie.Need-settle-requires Inv-loop μ-loop
-settle-requires c κs = search needs
 
 returns : tie.Need-returns Inv-loop μ-loop
 returns c =
@@ -84,15 +66,15 @@ mark-spec =
     (tie.spec
     Inv-loop
     μ-loop
-    look-requires
-    turns-requires
+    (λ c κs. search needs)
+    (λ c κs. search needs)
     loop-holds
     mul-row
     array-copy-out-row
     put-requires
-    add-i
-    loop-less
+    (λ c. search needs)
+    (λ c. search needs)
     loop-again
-    deeper-requires
-    settle-requires
+    (λ c κs. search needs)
+    (λ c κs. search needs)
     returns)

@@ -18,15 +18,6 @@ Inv-loop b rows₀ count saved marks at fine n newest p₀ rows p = (p ≤ n) ×
 abbrev μ-loop : tie.MeasureT-loop
 μ-loop b rows₀ count saved marks at fine n newest p₀ rows p = n - p
 
-look-requires : tie.Need-look-requires Inv-loop μ-loop
-look-requires c κs = search needs
-
-turns-requires : tie.Need-turns-requires Inv-loop μ-loop
-turns-requires c κs = search needs
-
-fewer-requires : tie.Need-fewer-requires Inv-loop μ-loop
-fewer-requires c κs = search needs
-
 loop-holds : tie.Need-loop-holds Inv-loop μ-loop
 loop-holds c = (search needs, refl)
 
@@ -56,12 +47,6 @@ mul-rows c = let r = room (c .before .before .before .before) .1 in search needs
 array-set-from-rows : tie.Need-array-set-from-rows Inv-loop μ-loop
 array-set-from-rows c = room (c .before .before .before .before) .1
 
-add-p : tie.Need-add-p Inv-loop μ-loop
-add-p c = search needs
-
-loop-less : tie.Need-loop-less Inv-loop μ-loop
-loop-less c = search needs
-
 loop-again : tie.Need-loop-again Inv-loop μ-loop
 loop-again c =
     let s = c .before .before .before .before .before in
@@ -72,9 +57,6 @@ loop-again c =
       (λ t. withDomain (s .loop .inv .1 t) p (masked (domainAt (s .loop .inv .1 t) p) (c .at .ensures t)))
           ∙ ap (λ (n : ℕ). bringing (b .saved) (f .fewer .result) n (b .rows)) (sym (add-one p)),
     )
-
-settle-requires : tie.Need-settle-requires Inv-loop μ-loop
-settle-requires c κs = search needs
 
 returns : tie.Need-returns Inv-loop μ-loop
 returns c =
@@ -95,17 +77,17 @@ restore-spec =
     (tie.spec
     Inv-loop
     μ-loop
-    look-requires
-    turns-requires
-    fewer-requires
+    (λ c κs. search needs)
+    (λ c κs. search needs)
+    (λ c κs. search needs)
     loop-holds
     mul-row
     array-copy-out-row
     at-requires
     mul-rows
     array-set-from-rows
-    add-p
-    loop-less
+    (λ c. search needs)
+    (λ c. search needs)
     loop-again
-    settle-requires
+    (λ c κs. search needs)
     returns)

@@ -74,9 +74,6 @@ hints-of-requires c κs = c .before .before .pre .0 .few
 loop-holds : tie.Need-loop-holds Inv-loop μ-loop
 loop-holds c = (search needs, search needs, refl)
 
-mul-c : tie.Need-mul-c Inv-loop μ-loop
-mul-c c = search needs
-
 array-copy-out-c : tie.Need-array-copy-out-c Inv-loop μ-loop
 array-copy-out-c c = search (needs, mapped)
 
@@ -84,9 +81,6 @@ find-requires : tie.Need-find-requires Inv-loop μ-loop
 find-requires c κs =
     let s = c .before .before .before .before .before .before .before in
     (s .before .pre .0 .few, differ-agree (λ k. getD (s .ids-of .result) k 0) (idAt (s .before .args .rows)) (s .before .args .count) (s .ids-of .ensures) ∙ s .before .pre .0 .apart)
-
-mul-row : tie.Need-mul-row Inv-loop μ-loop
-mul-row c = search needs
 
 array-copy-out-row : tie.Need-array-copy-out-row Inv-loop μ-loop
 array-copy-out-row c = search (needs, mapped)
@@ -96,20 +90,8 @@ shut-row-requires c κs =
     let f = c .before .before in
     kept f .domains (f .find .result) (seat-below f (c .before .if1 .taken))
 
-mul-rows : tie.Need-mul-rows Inv-loop μ-loop
-mul-rows c = search needs
-
 array-set-from-rows : tie.Need-array-set-from-rows Inv-loop μ-loop
 array-set-from-rows c = search (needs, mapped)
-
-counted-requires : tie.Need-counted-requires Inv-loop μ-loop
-counted-requires c κs = search needs
-
-add-i : tie.Need-add-i Inv-loop μ-loop
-add-i c = search needs
-
-loop-less : tie.Need-loop-less Inv-loop μ-loop
-loop-less c = search needs
 
 loop-again : tie.Need-loop-again Inv-loop μ-loop
 loop-again c =
@@ -144,16 +126,16 @@ close-rows-spec =
     ids-of-requires
     hints-of-requires
     loop-holds
-    mul-c
+    (λ c. search needs)
     array-copy-out-c
     find-requires
-    mul-row
+    (λ c. search needs)
     array-copy-out-row
     shut-row-requires
-    mul-rows
+    (λ c. search needs)
     array-set-from-rows
-    counted-requires
-    add-i
-    loop-less
+    (λ c κs. search needs)
+    (λ c. search needs)
+    (λ c. search needs)
     loop-again
     returns)

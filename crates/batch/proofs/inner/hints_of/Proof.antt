@@ -15,32 +15,8 @@ abbrev μ-loop : tie.MeasureT-loop
 loop-holds : tie.Need-loop-holds Inv-loop μ-loop
 loop-holds c = (search needs, refl)
 
-mul-h : tie.Need-mul-h Inv-loop μ-loop
-mul-h c = search needs
-
-element-copy-out-h : tie.Need-element-copy-out-h Inv-loop μ-loop
-element-copy-out-h c = search needs
-
-cast-h : tie.Need-cast-h Inv-loop μ-loop
-cast-h c = search needs
-
-cast-hints : tie.Need-cast-hints Inv-loop μ-loop
-cast-hints c = search needs
-
-array-write-hints : tie.Need-array-write-hints Inv-loop μ-loop
-array-write-hints c = search needs
-
-add-i : tie.Need-add-i Inv-loop μ-loop
-add-i c = search needs
-
-loop-less : tie.Need-loop-less Inv-loop μ-loop
-loop-less c = search needs
-
 loop-again : tie.Need-loop-again Inv-loop μ-loop
 loop-again c = (search needs, rw length-set (search needs))
-
-returns : tie.Need-returns Inv-loop μ-loop
-returns c = search needs
 
 pub hints-of-spec : {M : Type 1} → statement M
 hints-of-spec =
@@ -49,12 +25,12 @@ hints-of-spec =
     Inv-loop
     μ-loop
     loop-holds
-    mul-h
-    element-copy-out-h
-    cast-h
-    cast-hints
-    array-write-hints
-    add-i
-    loop-less
+    (λ c. search needs)
+    (λ c. search needs)
+    (λ c. search needs)
+    (λ c. search needs)
+    (λ c. search needs)
+    (λ c. search needs)
+    (λ c. search needs)
     loop-again
-    returns)
+    (λ c. search needs))

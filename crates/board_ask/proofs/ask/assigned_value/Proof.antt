@@ -8,18 +8,6 @@ use borrow.Author.Needs.{needs}
 use Rattle.board_ask.proofs.ask.assigned_value.Statement.{statement}
 use Rattle.board_ask.proofs.ask.assigned_value.Tie as tie
 
-domain-of-requires : tie.Need-domain-of-requires
-domain-of-requires c κs = search needs
-
-enum-known-sought : tie.Need-enum-known-sought
-enum-known-sought c = search needs
-
-fixed-value-requires : tie.Need-fixed-value-requires
-fixed-value-requires c κs = search needs
-
-enum-told : tie.Need-enum-told
-enum-told c = search needs
-
 returns : tie.Need-returns
 unfolding assignedValueOf
 returns c =
@@ -39,9 +27,9 @@ pub assigned-value-spec : {M : Type 1} → statement M
 assigned-value-spec =
     tie.close
     (tie.spec
-    domain-of-requires
-    enum-known-sought
-    fixed-value-requires
-    enum-told
+    (λ c κs. search needs)
+    (λ c. search needs)
+    (λ c κs. search needs)
+    (λ c. search needs)
     returns
     returns-2)

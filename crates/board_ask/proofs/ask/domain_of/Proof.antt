@@ -8,17 +8,11 @@ use borrow.Author.Needs.{needs}
 use Rattle.board_ask.proofs.ask.domain_of.Statement.{statement}
 use Rattle.board_ask.proofs.ask.domain_of.Tie as tie
 
-look-requires : tie.Need-look-requires
-look-requires c κs = search needs
-
 returns : tie.Need-returns
 returns c =
     let l = c .before in
     let a = l .before .args in
     sought-broken (a .t1) (a .count) (a .ws .now) (a .marks) (a .id .0) (l .look .result) (l .look .ensures) (c .if1 .taken)
-
-new-invalid-requires : tie.Need-new-invalid-requires
-new-invalid-requires c κs = search needs
 
 returns-2 : tie.Need-returns-2
 returns-2 c =
@@ -50,9 +44,9 @@ pub domain-of-spec : {M : Type 1} → statement M
 domain-of-spec =
     tie.close
     (tie.spec
-    look-requires
+    (λ c κs. search needs)
     returns
-    new-invalid-requires
+    (λ c κs. search needs)
     returns-2
     mul-row
     array-copy-out-row

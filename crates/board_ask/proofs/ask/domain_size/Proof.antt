@@ -8,18 +8,6 @@ use borrow.Author.Needs.{needs}
 use Rattle.board_ask.proofs.ask.domain_size.Statement.{statement}
 use Rattle.board_ask.proofs.ask.domain_size.Tie as tie
 
-domain-of-requires : tie.Need-domain-of-requires
-domain-of-requires c κs = search needs
-
-enum-known-sought : tie.Need-enum-known-sought
-enum-known-sought c = search needs
-
-size-requires : tie.Need-size-requires
-size-requires c κs = search needs
-
-enum-told : tie.Need-enum-told
-enum-told c = search needs
-
 returns : tie.Need-returns
 unfolding domainSizeOf
 returns c =
@@ -38,4 +26,4 @@ returns-2 c =
 pub domain-size-spec : {M : Type 1} → statement M
 domain-size-spec =
     tie.close
-    (tie.spec domain-of-requires enum-known-sought size-requires enum-told returns returns-2)
+    (tie.spec (λ c κs. search needs) (λ c. search needs) (λ c κs. search needs) (λ c. search needs) returns returns-2)

@@ -7,24 +7,6 @@ use borrow.Author.Needs.{needs}
 use Rattle.board_ask.proofs.ask.ends.Statement.{statement}
 use Rattle.board_ask.proofs.ask.ends.Tie as tie
 
-min-requires : tie.Need-min-requires
-min-requires c κs = search needs
-
-max-requires : tie.Need-max-requires
-max-requires c κs = search needs
-
-enum-known-low : tie.Need-enum-known-low
-enum-known-low c = search needs
-
-enum-known-low-2 : tie.Need-enum-known-low-2
-enum-known-low-2 c = search needs
-
-enum-known-high : tie.Need-enum-known-high
-enum-known-high c = search needs
-
-enum-known-high-2 : tie.Need-enum-known-high-2
-enum-known-high-2 c = search needs
-
 returns : tie.Need-returns
 returns c =
     let n = c .before .before .before in
@@ -51,12 +33,12 @@ pub ends-spec : {M : Type 1} → statement M
 ends-spec =
     tie.close
     (tie.spec
-    min-requires
-    max-requires
-    enum-known-low
-    enum-known-low-2
-    enum-known-high
-    enum-known-high-2
+    (λ c κs. search needs)
+    (λ c κs. search needs)
+    (λ c. search needs)
+    (λ c. search needs)
+    (λ c. search needs)
+    (λ c. search needs)
     returns
     returns-2
     returns-3)

@@ -7,18 +7,6 @@ use borrow.Author.Needs.{needs}
 use Rattle.board_ask.proofs.ask.get_bounds.Statement.{statement}
 use Rattle.board_ask.proofs.ask.get_bounds.Tie as tie
 
-domain-of-requires : tie.Need-domain-of-requires
-domain-of-requires c κs = search needs
-
-enum-known-sought : tie.Need-enum-known-sought
-enum-known-sought c = search needs
-
-ends-requires : tie.Need-ends-requires
-ends-requires c κs = search needs
-
-enum-told : tie.Need-enum-told
-enum-told c = search needs
-
 returns : tie.Need-returns
 unfolding getBoundsOf
 returns c =
@@ -37,4 +25,4 @@ returns-2 c =
 pub get-bounds-spec : {M : Type 1} → statement M
 get-bounds-spec =
     tie.close
-    (tie.spec domain-of-requires enum-known-sought ends-requires enum-told returns returns-2)
+    (tie.spec (λ c κs. search needs) (λ c. search needs) (λ c κs. search needs) (λ c. search needs) returns returns-2)

@@ -8,21 +8,6 @@ use borrow.Author.Needs.{needs}
 use Rattle.board_ask.proofs.ask.get_domain_values_into.Statement.{statement}
 use Rattle.board_ask.proofs.ask.get_domain_values_into.Tie as tie
 
-domain-of-requires : tie.Need-domain-of-requires
-domain-of-requires c κs = search needs
-
-enum-known-sought : tie.Need-enum-known-sought
-enum-known-sought c = search needs
-
-to-vec-requires : tie.Need-to-vec-requires
-to-vec-requires c κs = search needs
-
-enum-told : tie.Need-enum-told
-enum-told c = search needs
-
-same-length : tie.Need-same-length
-same-length c = search needs
-
 returns : tie.Need-returns
 unfolding getIntoOf
 returns c =
@@ -43,10 +28,10 @@ pub get-domain-values-into-spec : {M : Type 1} → statement M
 get-domain-values-into-spec =
     tie.close
     (tie.spec
-    domain-of-requires
-    enum-known-sought
-    to-vec-requires
-    enum-told
-    same-length
+    (λ c κs. search needs)
+    (λ c. search needs)
+    (λ c κs. search needs)
+    (λ c. search needs)
+    (λ c. search needs)
     returns
     returns-2)

@@ -9,9 +9,6 @@ use borrow.Author.Needs.{needs}
 use Rattle.board_ask.proofs.ids.next_variable.Statement.{statement}
 use Rattle.board_ask.proofs.ids.next_variable.Tie as tie
 
-look-requires : tie.Need-look-requires
-look-requires c κs = search needs
-
 returns : tie.Need-returns
 unfolding nextIdOf
 returns c =
@@ -38,9 +35,6 @@ mul-row c = omega (arith, below c)
 array-copy-out-row : tie.Need-array-copy-out-row
 array-copy-out-row c = below c
 
-add-t8 : tie.Need-add-t8
-add-t8 c = search needs
-
 returns-3 : tie.Need-returns-3
 unfolding nextIdOf
 returns-3 c =
@@ -52,4 +46,4 @@ returns-3 c =
 pub next-variable-spec : {M : Type 1} → statement M
 next-variable-spec =
     tie.close
-    (tie.spec look-requires returns returns-2 mul-row array-copy-out-row add-t8 returns-3)
+    (tie.spec (λ c κs. search needs) returns returns-2 mul-row array-copy-out-row (λ c. search needs) returns-3)

@@ -5,9 +5,6 @@ use borrow.Author.Needs.{needs}
 use Rattle.board_ask.proofs.ids.variables.Statement.{statement}
 use Rattle.board_ask.proofs.ids.variables.Tie as tie
 
-look-requires : tie.Need-look-requires
-look-requires c κs = search needs
-
 returns : tie.Need-returns
 unfolding walkOf
 returns c =
@@ -21,4 +18,4 @@ returns-2 c =
     rw (looked-well (l .before .before .before .before .args .b) 0 (l .look .result) (l .look .ensures) (c .if1 .left))
 
 pub variables-spec : {M : Type 1} → statement M
-variables-spec = tie.close (tie.spec look-requires returns returns-2)
+variables-spec = tie.close (tie.spec (λ c κs. search needs) returns returns-2)

@@ -16,9 +16,6 @@ use borrow.Author.Needs.{needs}
 use Rattle.board_ask.proofs.ids.variables_into.Statement.{statement}
 use Rattle.board_ask.proofs.ids.variables_into.Tie as tie
 
-look-requires : tie.Need-look-requires
-look-requires c κs = search needs
-
 is-well : (c : tie.Else1) → wellBoard (c .before .before .before .before .before .before .args .b) ≡ true
 is-well c =
     let l = c .before in
@@ -43,9 +40,6 @@ write-requires c κs =
     let e = c .before .before in
     (sound (e .before .before .before .before .before .before .args .b) (is-well e) .few-rows, c .before .if2 .left)
 
-same-length : tie.Need-same-length
-same-length c = search needs
-
 returns-3 : tie.Need-returns-3
 unfolding idsIntoOf
 returns-3 c =
@@ -59,4 +53,4 @@ returns-3 c =
 
 pub variables-into-spec : {M : Type 1} → statement M
 variables-into-spec =
-    tie.close (tie.spec look-requires returns returns-2 write-requires same-length returns-3)
+    tie.close (tie.spec (λ c κs. search needs) returns returns-2 write-requires (λ c. search needs) returns-3)

@@ -25,12 +25,6 @@ abbrev μ-loop : tie.MeasureT-loop
 loop-holds : tie.Need-loop-holds Inv-loop μ-loop
 loop-holds c = (search needs, refl)
 
-mul-place : tie.Need-mul-place Inv-loop μ-loop
-mul-place c = search needs
-
-element-copy-out-place : tie.Need-element-copy-out-place Inv-loop μ-loop
-element-copy-out-place c = search needs
-
 below : (c : tie.After-place Inv-loop μ-loop) → getD (c .before .before .before .args .at .now) (c .before .before .loop .p) 0 < 64
 below c = c .before .before .before .pre .1 (c .before .before .loop .p) (c .before .loop-test .taken)
 
@@ -39,9 +33,6 @@ mul-row c = omega (arith, below c)
 
 array-copy-out-row : tie.Need-array-copy-out-row Inv-loop μ-loop
 array-copy-out-row c = below c
-
-is-one-requires : tie.Need-is-one-requires Inv-loop μ-loop
-is-one-requires c κs = search needs
 
 -- what `is_one` tells of the row
 one-is : (c : tie.After-is-one Inv-loop μ-loop) → c .is-one .result ≡ assigned (domainAt (c .before .before .before .before .before .before .args .t1) (getD (c .before .before .before .before .before .before .args .at .now) (c .before .before .before .before .before .loop .p) 0))
@@ -56,12 +47,6 @@ returns c =
     let s = c .before .before .before .before .before .before in
     let a = s .before .args in
     sym (one-fails (λ k. assigned (domainAt (a .t1) (getD (a .at .now) k 0))) (a .n) (s .loop .p) (search needs) (fails (one-is (c .before)) (c .if1 .taken)))
-
-add-p : tie.Need-add-p Inv-loop μ-loop
-add-p c = search needs
-
-loop-less : tie.Need-loop-less Inv-loop μ-loop
-loop-less c = search needs
 
 loop-again : tie.Need-loop-again Inv-loop μ-loop
 loop-again c =
@@ -83,13 +68,13 @@ all-assigned-spec =
     Inv-loop
     μ-loop
     loop-holds
-    mul-place
-    element-copy-out-place
+    (λ c. search needs)
+    (λ c. search needs)
     mul-row
     array-copy-out-row
-    is-one-requires
+    (λ c κs. search needs)
     returns
-    add-p
-    loop-less
+    (λ c. search needs)
+    (λ c. search needs)
     loop-again
     returns-2)

@@ -10,9 +10,6 @@ use borrow.Author.Needs.{needs}
 use Rattle.board_ask.proofs.list.ready.Statement.{statement}
 use Rattle.board_ask.proofs.list.ready.Tie as tie
 
-look-requires : tie.Need-look-requires
-look-requires c κs = search needs
-
 returns : tie.Need-returns
 unfolding readyOf
 returns c =
@@ -29,12 +26,6 @@ seats-requires : tie.Need-seats-requires
 seats-requires c κs =
     let s = sound (c .before .before .before .before .before .before .before .args .b) (is-well (c .before)) in
     (s .few-rows, s .apart)
-
-enum-known-found : tie.Need-enum-known-found
-enum-known-found c = search needs
-
-enum-told : tie.Need-enum-told
-enum-told c = search needs
 
 all-assigned-requires : tie.Need-all-assigned-requires
 all-assigned-requires c κs =
@@ -61,11 +52,11 @@ pub ready-spec : {M : Type 1} → statement M
 ready-spec =
     tie.close
     (tie.spec
-    look-requires
+    (λ c κs. search needs)
     returns
     seats-requires
-    enum-known-found
-    enum-told
+    (λ c. search needs)
+    (λ c. search needs)
     all-assigned-requires
     returns-2
     returns-3)

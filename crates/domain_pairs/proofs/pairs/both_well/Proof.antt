@@ -4,17 +4,11 @@ use Rattle.rules.proofs.Tests.{fails, passes}
 use Rattle.domain_pairs.proofs.pairs.both_well.Statement.{statement}
 use Rattle.domain_pairs.proofs.pairs.both_well.Tie as tie
 
-is-well-requires : tie.Need-is-well-requires
-is-well-requires c κs = search needs
-
 returns : tie.Need-returns
 returns c = rw (fails (c .before .is-well .ensures) (c .if1 .taken))
-
-is-well-requires-2 : tie.Need-is-well-requires-2
-is-well-requires-2 c κs = search needs
 
 returns-2 : tie.Need-returns-2
 returns-2 c = rw (passes (c .before .before .is-well .ensures) (c .before .if1 .left)) (c .is-well2 .ensures)
 
 pub both-well-spec : {M : Type 1} → statement M
-both-well-spec = tie.close (tie.spec is-well-requires returns is-well-requires-2 returns-2)
+both-well-spec = tie.close (tie.spec (λ c κs. search needs) returns (λ c κs. search needs) returns-2)

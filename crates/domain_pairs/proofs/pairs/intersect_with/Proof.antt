@@ -12,25 +12,13 @@ use Rattle.domain_pairs.proofs.Universes.{both-bits}
 use Rattle.domain_pairs.proofs.pairs.intersect_with.Statement.{statement}
 use Rattle.domain_pairs.proofs.pairs.intersect_with.Tie as tie
 
-both-well-requires : tie.Need-both-well-requires
-both-well-requires c κs = search needs
-
 returns : tie.Need-returns
 unfolding intersectOf
 returns c = rw (fails (c .before .both-well .ensures) (c .if1 .taken))
 
-same-bounds-requires : tie.Need-same-bounds-requires
-same-bounds-requires c κs = search needs
-
 returns-2 : tie.Need-returns-2
 unfolding intersectOf
 returns-2 c = rw (passes (c .before .before .before .both-well .ensures) (c .before .before .if1 .left), fails (c .before .same-bounds .ensures) (c .if2 .taken))
-
-and-requires : tie.Need-and-requires
-and-requires c κs = search needs
-
-with-mask-requires : tie.Need-with-mask-requires
-with-mask-requires c κs = search needs
 
 returns-3 : tie.Need-returns-3
 unfolding intersectOf
@@ -46,10 +34,10 @@ pub intersect-with-spec : {M : Type 1} → statement M
 intersect-with-spec =
     tie.close
     (tie.spec
-    both-well-requires
+    (λ c κs. search needs)
     returns
-    same-bounds-requires
+    (λ c κs. search needs)
     returns-2
-    and-requires
-    with-mask-requires
+    (λ c κs. search needs)
+    (λ c κs. search needs)
     returns-3)

@@ -12,22 +12,13 @@ use Rattle.domain_pairs.proofs.Universes.{either-bits}
 use Rattle.domain_pairs.proofs.pairs.union_mask.Statement.{statement}
 use Rattle.domain_pairs.proofs.pairs.union_mask.Tie as tie
 
-both-well-requires : tie.Need-both-well-requires
-both-well-requires c κs = search needs
-
 returns : tie.Need-returns
 unfolding unionMaskOf
 returns c = rw (fails (c .before .both-well .ensures) (c .if1 .taken))
 
-same-bounds-requires : tie.Need-same-bounds-requires
-same-bounds-requires c κs = search needs
-
 returns-2 : tie.Need-returns-2
 unfolding unionMaskOf
 returns-2 c = rw (passes (c .before .before .before .both-well .ensures) (c .before .before .if1 .left), fails (c .before .same-bounds .ensures) (c .if2 .taken))
-
-or-requires : tie.Need-or-requires
-or-requires c κs = search needs
 
 returns-3 : tie.Need-returns-3
 unfolding unionMaskOf
@@ -40,4 +31,4 @@ returns-3 c =
 pub union-mask-spec : {M : Type 1} → statement M
 union-mask-spec =
     tie.close
-    (tie.spec both-well-requires returns same-bounds-requires returns-2 or-requires returns-3)
+    (tie.spec (λ c κs. search needs) returns (λ c κs. search needs) returns-2 (λ c κs. search needs) returns-3)

@@ -12,25 +12,13 @@ use Rattle.domain_pairs.proofs.Universes.{either-bits}
 use Rattle.domain_pairs.proofs.pairs.union_with.Statement.{statement}
 use Rattle.domain_pairs.proofs.pairs.union_with.Tie as tie
 
-both-well-requires : tie.Need-both-well-requires
-both-well-requires c κs = search needs
-
 returns : tie.Need-returns
 unfolding unionOf
 returns c = rw (fails (c .before .both-well .ensures) (c .if1 .taken))
 
-same-bounds-requires : tie.Need-same-bounds-requires
-same-bounds-requires c κs = search needs
-
 returns-2 : tie.Need-returns-2
 unfolding unionOf
 returns-2 c = rw (passes (c .before .before .before .both-well .ensures) (c .before .before .if1 .left), fails (c .before .same-bounds .ensures) (c .if2 .taken))
-
-or-requires : tie.Need-or-requires
-or-requires c κs = search needs
-
-with-mask-requires : tie.Need-with-mask-requires
-with-mask-requires c κs = search needs
 
 returns-3 : tie.Need-returns-3
 unfolding unionOf
@@ -46,10 +34,10 @@ pub union-with-spec : {M : Type 1} → statement M
 union-with-spec =
     tie.close
     (tie.spec
-    both-well-requires
+    (λ c κs. search needs)
     returns
-    same-bounds-requires
+    (λ c κs. search needs)
     returns-2
-    or-requires
-    with-mask-requires
+    (λ c κs. search needs)
+    (λ c κs. search needs)
     returns-3)

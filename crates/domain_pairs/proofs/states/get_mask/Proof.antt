@@ -5,9 +5,6 @@ use Rattle.domain_pairs.specs.Calls.{getMaskOf}
 use Rattle.domain_pairs.proofs.states.get_mask.Statement.{statement}
 use Rattle.domain_pairs.proofs.states.get_mask.Tie as tie
 
-is-well-requires : tie.Need-is-well-requires
-is-well-requires c κs = search needs
-
 returns : tie.Need-returns
 unfolding getMaskOf
 returns c = rw (fails (c .before .is-well .ensures) (c .if1 .taken))
@@ -17,4 +14,4 @@ unfolding getMaskOf
 returns-2 c = rw (passes (c .before .before .is-well .ensures) (c .before .if1 .left))
 
 pub get-mask-spec : {M : Type 1} → statement M
-get-mask-spec = tie.close (tie.spec is-well-requires returns returns-2)
+get-mask-spec = tie.close (tie.spec (λ c κs. search needs) returns returns-2)

@@ -15,21 +15,9 @@ use Rattle.domain_pairs.proofs.Masks.{minus-bits, some-values}
 use Rattle.domain_pairs.proofs.states.remove_by_mask.Statement.{statement}
 use Rattle.domain_pairs.proofs.states.remove_by_mask.Tie as tie
 
-is-well-requires : tie.Need-is-well-requires
-is-well-requires c κs = search needs
-
 returns : tie.Need-returns
 unfolding removeByMaskOf
 returns c = rw (fails (c .before .is-well .ensures) (c .if1 .taken))
-
-minus-requires : tie.Need-minus-requires
-minus-requires c κs = search needs
-
-with-mask-requires : tie.Need-with-mask-requires
-with-mask-requires c κs = search needs
-
-same-requires : tie.Need-same-requires
-same-requires c κs = search needs
 
 returns-2 : tie.Need-returns-2
 unfolding removeByMaskOf
@@ -46,4 +34,4 @@ returns-2 c =
 pub remove-by-mask-spec : {M : Type 1} → statement M
 remove-by-mask-spec =
     tie.close
-    (tie.spec is-well-requires returns minus-requires with-mask-requires same-requires returns-2)
+    (tie.spec (λ c κs. search needs) returns (λ c κs. search needs) (λ c κs. search needs) (λ c κs. search needs) returns-2)

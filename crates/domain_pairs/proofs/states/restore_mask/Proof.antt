@@ -9,18 +9,9 @@ use Rattle.rules.proofs.Tests.{fails, passes}
 use Rattle.domain_pairs.proofs.states.restore_mask.Statement.{statement}
 use Rattle.domain_pairs.proofs.states.restore_mask.Tie as tie
 
-is-well-requires : tie.Need-is-well-requires
-is-well-requires c κs = search needs
-
 returns : tie.Need-returns
 unfolding restoreMaskOf
 returns c = rw (fails (c .before .is-well .ensures) (c .if1 .taken))
-
-width-requires : tie.Need-width-requires
-width-requires c κs = search needs
-
-fits-requires : tie.Need-fits-requires
-fits-requires c κs = search needs
 
 returns-2 : tie.Need-returns-2
 unfolding restoreMaskOf
@@ -28,9 +19,6 @@ returns-2 c =
     let m = c .before .before .before .before .before .args .m in
     let f = c .before .fits2 .ensures ∙ ap (λ (n : ℕ). ltb (val m) (2 ^ n)) (c .before .before .width .ensures) in
     rw (passes (c .before .before .before .before .is-well .ensures) (c .before .before .before .if1 .left), fails f (c .if2 .taken))
-
-with-mask-requires : tie.Need-with-mask-requires
-with-mask-requires c κs = search needs
 
 returns-3 : tie.Need-returns-3
 unfolding restoreMaskOf
@@ -44,10 +32,10 @@ pub restore-mask-spec : {M : Type 1} → statement M
 restore-mask-spec =
     tie.close
     (tie.spec
-    is-well-requires
+    (λ c κs. search needs)
     returns
-    width-requires
-    fits-requires
+    (λ c κs. search needs)
+    (λ c κs. search needs)
     returns-2
-    with-mask-requires
+    (λ c κs. search needs)
     returns-3)

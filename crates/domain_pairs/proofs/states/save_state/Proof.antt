@@ -9,15 +9,9 @@ use Rattle.domain_pairs.proofs.Masks.{length-values}
 use Rattle.domain_pairs.proofs.states.save_state.Statement.{statement}
 use Rattle.domain_pairs.proofs.states.save_state.Tie as tie
 
-is-well-requires : tie.Need-is-well-requires
-is-well-requires c κs = search needs
-
 returns : tie.Need-returns
 unfolding saveStateOf
 returns c = rw (fails (c .before .is-well .ensures) (c .if1 .taken))
-
-count-requires : tie.Need-count-requires
-count-requires c κs = search needs
 
 returns-2 : tie.Need-returns-2
 unfolding saveStateOf
@@ -26,4 +20,4 @@ returns-2 c =
     rw (passes (c .before .before .before .is-well .ensures) (c .before .before .if1 .left)) (ap (λ (n : ℕ). kept.State (record { mask = d .mask; size = n })) (c .count .ensures .0 ∙ sym (length-values (d .min) (d .mask))))
 
 pub save-state-spec : {M : Type 1} → statement M
-save-state-spec = tie.close (tie.spec is-well-requires returns count-requires returns-2)
+save-state-spec = tie.close (tie.spec (λ c κs. search needs) returns (λ c κs. search needs) returns-2)

@@ -12,9 +12,6 @@ small c = omega arith
 cast-result : tie.Need-cast-result
 cast-result c = wide-fits (c .fits .min)
 
-cast-result-2 : tie.Need-cast-result-2
-cast-result-2 c = search needs
-
 add-result : tie.Need-add-result
 add-result c = sum-fits (c .fits .min) (small c)
 
@@ -22,4 +19,4 @@ returns : tie.Need-returns
 returns c = sum-is (c .fits .min) (small c)
 
 pub value-spec : {M : Type 1} → statement M
-value-spec = tie.close (tie.spec cast-result cast-result-2 add-result returns)
+value-spec = tie.close (tie.spec cast-result (λ c. search needs) add-result returns)

@@ -22,12 +22,6 @@ returns c =
     let g : Fit (a .mask) = search needs in
     sym (roomy-well a g (ap (λ (z : ℤ). leZ z (pos 2147483520)) (sym (read (a .min) f)) ∙ c .if1 .taken))
 
-span-requires : tie.Need-span-requires
-span-requires c κs = search needs
-
-fits-requires : tie.Need-fits-requires
-fits-requires c κs = search needs
-
 returns-2 : tie.Need-returns-2
 returns-2 c =
     let a = c .before .before .before .before .before .before .args .c in
@@ -35,4 +29,4 @@ returns-2 c =
     c .fits2 .ensures ∙ ap (λ (n : ℕ). ltb (val (a .mask)) (2 ^ n)) (c .before .span .ensures ∙ ap (λ (z : ℤ). spanOf z (pos 2147483647)) (read (a .min) f)) ∙ sym (well-fits a)
 
 pub is-well-spec : {M : Type 1} → statement M
-is-well-spec = tie.close (tie.spec returns span-requires fits-requires returns-2)
+is-well-spec = tie.close (tie.spec returns (λ c κs. search needs) (λ c κs. search needs) returns-2)

@@ -9,9 +9,6 @@ use borrow.Author.Needs.{needs}
 use Rattle.domain_values.proofs.cursor.iter.Statement.{statement}
 use Rattle.domain_values.proofs.cursor.iter.Tie as tie
 
-is-well-requires : tie.Need-is-well-requires
-is-well-requires c κs = search needs
-
 returns : tie.Need-returns
 unfolding iterOf
 returns c =
@@ -27,4 +24,4 @@ returns-2 c =
     rw (passes (w .is-well .ensures) (c .before .before .if1 .left)) (λ i. begun.Cursor (record { mask = d .mask; min = read (d .min) f i }))
 
 pub iter-spec : {M : Type 1} → statement M
-iter-spec = tie.close (tie.spec is-well-requires returns returns-2)
+iter-spec = tie.close (tie.spec (λ c κs. search needs) returns returns-2)

@@ -8,15 +8,9 @@ use borrow.Author.Needs.{needs}
 use Rattle.domain_values.proofs.cursor.left.Statement.{statement}
 use Rattle.domain_values.proofs.cursor.left.Tie as tie
 
-is-well-requires : tie.Need-is-well-requires
-is-well-requires c κs = search needs
-
 returns : tie.Need-returns
 unfolding leftOf
 returns c = rw (sym (c .before .is-well .ensures) ∙ not-true (c .before .is-well .result) (c .if1 .taken))
-
-count-requires : tie.Need-count-requires
-count-requires c κs = search needs
 
 returns-2 : tie.Need-returns-2
 unfolding leftOf
@@ -26,4 +20,4 @@ returns-2 c =
     rw (sym (w .is-well .ensures) ∙ not-false (w .is-well .result) (c .before .if1 .left)) (ap counted.Count (c .count .ensures .0 ∙ sym (size-ones (a .min) (a .mask))))
 
 pub left-spec : {M : Type 1} → statement M
-left-spec = tie.close (tie.spec is-well-requires returns count-requires returns-2)
+left-spec = tie.close (tie.spec (λ c κs. search needs) returns (λ c κs. search needs) returns-2)

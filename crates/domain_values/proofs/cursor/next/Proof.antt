@@ -33,15 +33,9 @@ fits c =
     let f : SFits w32 (a .min) = search needs in
     value-fits a (sound e) f (c .before .lowest .result) (c .before .lowest .ensures .0 .set)
 
-is-well-requires : tie.Need-is-well-requires
-is-well-requires c κs = search needs
-
 returns : tie.Need-returns
 unfolding nextOf
 returns c = rw (sym (c .before .is-well .ensures) ∙ not-true (c .before .is-well .result) (c .if1 .taken))
-
-is-none-requires : tie.Need-is-none-requires
-is-none-requires c κs = search needs
 
 returns-2 : tie.Need-returns-2
 returns-2 c =
@@ -79,9 +73,9 @@ pub next-spec : {M : Type 1} → statement M
 next-spec =
     tie.close
     (tie.spec
-    is-well-requires
+    (λ c κs. search needs)
     returns
-    is-none-requires
+    (λ c κs. search needs)
     returns-2
     lowest-requires
     value-requires

@@ -22,15 +22,9 @@ count-is c =
     let d = c .before .before .before .args .d in
     c .count .ensures .0 ∙ sym (size-ones (d .min) (d .mask))
 
-is-well-requires : tie.Need-is-well-requires
-is-well-requires c κs = search needs
-
 returns : tie.Need-returns
 unfolding toVecOf
 returns c = rw (fails (c .before .is-well .ensures) (c .if1 .taken))
-
-count-requires : tie.Need-count-requires
-count-requires c κs = search needs
 
 returns-2 : tie.Need-returns-2
 unfolding toVecOf
@@ -43,9 +37,6 @@ write-requires : tie.Need-write-requires
 write-requires c κs =
     let n = c .before .before in
     (well-is (n .before), count-is n, c .before .if2 .left)
-
-same-length : tie.Need-same-length
-same-length c = search needs
 
 returns-3 : tie.Need-returns-3
 unfolding toVecOf
@@ -60,10 +51,10 @@ pub to-vec-spec : {M : Type 1} → statement M
 to-vec-spec =
     tie.close
     (tie.spec
-    is-well-requires
+    (λ c κs. search needs)
     returns
-    count-requires
+    (λ c κs. search needs)
     returns-2
     write-requires
-    same-length
+    (λ c. search needs)
     returns-3)

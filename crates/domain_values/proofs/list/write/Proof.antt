@@ -66,9 +66,6 @@ value-requires c κs =
     let f : SFits w32 (d .min) = search needs in
     rw (read (d .min) f) (fits c)
 
-mul-t9 : tie.Need-mul-t9 Inv-loop μ-loop
-mul-t9 c = search needs
-
 slice-set-from-cells : tie.Need-slice-set-from-cells Inv-loop μ-loop
 slice-set-from-cells c =
     let a = c .before .before .before .before in
@@ -76,12 +73,6 @@ slice-set-from-cells c =
 
 rest-requires : tie.Need-rest-requires Inv-loop μ-loop
 rest-requires c κs = some-left (c .before .before .before)
-
-add-i : tie.Need-add-i Inv-loop μ-loop
-add-i c = search needs
-
-loop-less : tie.Need-loop-less Inv-loop μ-loop
-loop-less c = omega arith
 
 loop-again : tie.Need-loop-again Inv-loop μ-loop
 loop-again c =
@@ -130,11 +121,11 @@ write-spec =
     loop-holds
     lowest-requires
     value-requires
-    mul-t9
+    (λ c. search needs)
     slice-set-from-cells
     rest-requires
-    add-i
-    loop-less
+    (λ c. search needs)
+    (λ c. omega arith)
     loop-again
     same-length
     returns)

@@ -8,9 +8,6 @@ use borrow.Author.Needs.{needs}
 use Rattle.domain_values.proofs.make.bare.Statement.{statement}
 use Rattle.domain_values.proofs.make.bare.Tie as tie
 
-empty-requires : tie.Need-empty-requires
-empty-requires c κs = search needs
-
 returns : tie.Need-returns
 unfolding bitsOf
 returns c =
@@ -21,4 +18,4 @@ returns c =
     λ i. record { mask = mask-eq (c .empty .result) 0 h (c .empty .ensures) i; min = read (a .min) f i; max = read (a .max) g i }
 
 pub bare-spec : {M : Type 1} → statement M
-bare-spec = tie.close (tie.spec empty-requires returns)
+bare-spec = tie.close (tie.spec (λ c κs. search needs) returns)

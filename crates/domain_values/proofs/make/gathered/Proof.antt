@@ -20,9 +20,6 @@ min-is s = read (s .args .min) (search needs)
 max-is : (s : tie.Start) → toZ w32 (ofZ w32 (s .args .max)) ≡ s .args .max
 max-is s = read (s .args .max) (search needs)
 
-offsets-of-requires : tie.Need-offsets-of-requires
-offsets-of-requires c κs = search needs
-
 returns : tie.Need-returns
 returns c =
     let s = c .before in
@@ -34,4 +31,4 @@ returns c =
     λ i. record { mask = mask-eq (c .offsets-of .result) (bitsOf lo (keep (λ x. has x l) (range lo (spanOf lo hi)))) g e i; min = min-is s i; max = max-is s i }
 
 pub gathered-spec : {M : Type 1} → statement M
-gathered-spec = tie.close (tie.spec offsets-of-requires returns)
+gathered-spec = tie.close (tie.spec (λ c κs. search needs) returns)

@@ -30,23 +30,8 @@ min-is s = read (s .args .min) (search needs)
 max-is : (s : tie.Start Inv-loop μ-loop) → toZ w32 (ofZ w32 (s .args .max)) ≡ s .args .max
 max-is s = read (s .args .max) (search needs)
 
-span-requires : tie.Need-span-requires Inv-loop μ-loop
-span-requires c κs = search needs
-
-empty-requires : tie.Need-empty-requires Inv-loop μ-loop
-empty-requires c κs = search needs
-
 loop-holds : tie.Need-loop-holds Inv-loop μ-loop
 loop-holds c = rw (c .empty .ensures) (or-zero-l (bitsOf (toZ w32 (ofZ w32 (c .before .before .args .min))) (c .before .before .args .values .now)))
-
-mul-place : tie.Need-mul-place Inv-loop μ-loop
-mul-place c = search needs
-
-shared-slice-copy-out-place : tie.Need-shared-slice-copy-out-place Inv-loop μ-loop
-shared-slice-copy-out-place c = search needs
-
-place-requires : tie.Need-place-requires Inv-loop μ-loop
-place-requires c κs = search needs
 
 -- the offset of value i
 place-is : (c : tie.After-place Inv-loop μ-loop) →
@@ -67,12 +52,6 @@ with-requires c κs =
     let s = a .before .before .before in
     let w = spanOf (s .args .min) (s .args .max) in
     omega (arith, place-is c, at-lt (s .args .min) (s .args .max) (s .args .values .now) (s .pre .1) (a .loop .i) (c .before .before .loop-test .taken), leb-true w offsets (s .pre .0))
-
-add-i : tie.Need-add-i Inv-loop μ-loop
-add-i c = search needs
-
-loop-less : tie.Need-loop-less Inv-loop μ-loop
-loop-less c = omega arith
 
 loop-again : tie.Need-loop-again Inv-loop μ-loop
 loop-again c =
@@ -98,14 +77,14 @@ offsets-of-spec =
     (tie.spec
     Inv-loop
     μ-loop
-    span-requires
-    empty-requires
+    (λ c κs. search needs)
+    (λ c κs. search needs)
     loop-holds
-    mul-place
-    shared-slice-copy-out-place
-    place-requires
+    (λ c. search needs)
+    (λ c. search needs)
+    (λ c κs. search needs)
     with-requires
-    add-i
-    loop-less
+    (λ c. search needs)
+    (λ c. omega arith)
     loop-again
     returns)

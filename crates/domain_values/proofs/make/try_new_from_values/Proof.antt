@@ -35,21 +35,9 @@ span-is c = c .span .ensures ∙ (λ i. spanOf (min-is (c .before) i) (max-is (c
 narrow-is : (c : tie.Else2) → narrow (smallestOf (list (c .before .before))) (largestOf (list (c .before .before))) ≡ true
 narrow-is c = le-leb (spanOf (smallestOf (list (c .before .before))) (largestOf (list (c .before .before)))) offsets (omega (arith, span-is (c .before), c .if2 .left))
 
-bare-requires : tie.Need-bare-requires
-bare-requires c κs = search needs
-
 returns : tie.Need-returns
 unfolding tryFromValuesOf
 returns c = ap made.Domain (c .bare .ensures) ∙ sym (spread-none made.Domain (made.Refused TooWide) (c .before .before .args .values .now) (c .before .if1 .taken))
-
-smallest-requires : tie.Need-smallest-requires
-smallest-requires c κs = search needs
-
-largest-requires : tie.Need-largest-requires
-largest-requires c κs = search needs
-
-span-requires : tie.Need-span-requires
-span-requires c κs = search needs
 
 returns-2 : tie.Need-returns-2
 unfolding tryFromValuesOf
@@ -73,11 +61,11 @@ pub try-new-from-values-spec : {M : Type 1} → statement M
 try-new-from-values-spec =
     tie.close
     (tie.spec
-    bare-requires
+    (λ c κs. search needs)
     returns
-    smallest-requires
-    largest-requires
-    span-requires
+    (λ c κs. search needs)
+    (λ c κs. search needs)
+    (λ c κs. search needs)
     returns-2
     gathered-requires
     returns-3)

@@ -9,12 +9,6 @@ use borrow.Author.Needs.{needs}
 use Rattle.pirozhkan.proofs.batches.close_all.Statement.{statement}
 use Rattle.pirozhkan.proofs.batches.close_all.Tie as tie
 
-judge-requires : tie.Need-judge-requires
-judge-requires c κs = search needs
-
-same-length : tie.Need-same-length
-same-length c = search needs
-
 -- words that pass the first test
 zero : (c : tie.Else1) → judgeOf (c .before .before .before .before .args .ws .now) ≡ 0
 zero c = sym (c .before .judge .ensures .0) ∙ c .if1 .left
@@ -25,17 +19,8 @@ returns c = let a = c .before .before .before .before .args in through-why (batc
 read-requires : tie.Need-read-requires
 read-requires c κs = passed (c .before .before .before .before .before .args .ws .now) (zero (c .before))
 
-close-many-requires : tie.Need-close-many-requires
-close-many-requires c κs = search needs
-
 write-requires : tie.Need-write-requires
 write-requires c κs = passed (c .before .before .before .before .before .before .before .before .before .args .ws .now) (zero (c .before .before .before .before .before)) .0
-
-counted-requires : tie.Need-counted-requires
-counted-requires c κs = search needs
-
-same-length-2 : tie.Need-same-length-2
-same-length-2 c = search needs
 
 returns-2 : tie.Need-returns-2
 returns-2 c =
@@ -51,12 +36,12 @@ pub close-all-spec : {M : Type 1} → statement M
 close-all-spec =
     tie.close
     (tie.spec
-    judge-requires
-    same-length
+    (λ c κs. search needs)
+    (λ c. search needs)
     returns
     read-requires
-    close-many-requires
+    (λ c κs. search needs)
     write-requires
-    counted-requires
-    same-length-2
+    (λ c κs. search needs)
+    (λ c. search needs)
     returns-2)

@@ -9,9 +9,6 @@ use borrow.Author.Needs.{needs}
 use Rattle.pirozhkan.proofs.batches.refuse.Statement.{statement}
 use Rattle.pirozhkan.proofs.batches.refuse.Tie as tie
 
-judge-requires : tie.Need-judge-requires
-judge-requires c κs = search needs
-
 -- words that pass the first test
 zero : (c : tie.Else1) → judgeOf (c .before .before .before .args .ws .now) ≡ 0
 zero c = sym (c .before .judge .ensures .0) ∙ c .if1 .left
@@ -21,21 +18,6 @@ returns c = let a = c .before .before .before .args in answered-why (refusing (a
 
 read-requires : tie.Need-read-requires
 read-requires c κs = passed (c .before .before .before .args .ws .now) (zero c)
-
-domains-changed-requires : tie.Need-domains-changed-requires
-domains-changed-requires c κs = search needs
-
-enum-known-well : tie.Need-enum-known-well
-enum-known-well c = search needs
-
-refusal-requires : tie.Need-refusal-requires
-refusal-requires c κs = search needs
-
-enum-told : tie.Need-enum-told
-enum-told c = search needs
-
-refusal-requires-2 : tie.Need-refusal-requires-2
-refusal-requires-2 c κs = search needs
 
 returns-2 : tie.Need-returns-2
 returns-2 c =
@@ -61,13 +43,13 @@ pub refuse-spec : {M : Type 1} → statement M
 refuse-spec =
     tie.close
     (tie.spec
-    judge-requires
+    (λ c κs. search needs)
     returns
     read-requires
-    domains-changed-requires
-    enum-known-well
-    refusal-requires
-    enum-told
-    refusal-requires-2
+    (λ c κs. search needs)
+    (λ c. search needs)
+    (λ c κs. search needs)
+    (λ c. search needs)
+    (λ c κs. search needs)
     returns-2
     returns-3)

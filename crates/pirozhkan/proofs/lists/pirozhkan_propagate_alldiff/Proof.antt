@@ -8,12 +8,6 @@ use borrow.Author.Needs.{needs}
 use Rattle.pirozhkan.proofs.lists.pirozhkan_propagate_alldiff.Statement.{statement}
 use Rattle.pirozhkan.proofs.lists.pirozhkan_propagate_alldiff.Tie as tie
 
-judge-requires : tie.Need-judge-requires
-judge-requires c κs = search needs
-
-same-length : tie.Need-same-length
-same-length c = search needs
-
 -- words that pass the first test
 zero : (c : tie.Else1) → judgeOf (c .before .before .before .before .before .args .ws .now) ≡ 0
 zero c = sym (c .before .judge .ensures .0) ∙ c .if1 .left
@@ -24,17 +18,8 @@ returns c = let a = c .before .before .before .before .before .args in through-w
 read-requires : tie.Need-read-requires
 read-requires c κs = passed (c .before .before .before .before .before .before .args .ws .now) (zero (c .before))
 
-propagate-alldiff-requires : tie.Need-propagate-alldiff-requires
-propagate-alldiff-requires c κs = search needs
-
 write-requires : tie.Need-write-requires
 write-requires c κs = passed (c .before .before .before .before .before .before .before .before .before .before .args .ws .now) (zero (c .before .before .before .before .before)) .0
-
-pair-requires : tie.Need-pair-requires
-pair-requires c κs = search needs
-
-same-length-2 : tie.Need-same-length-2
-same-length-2 c = search needs
 
 returns-2 : tie.Need-returns-2
 returns-2 c =
@@ -50,12 +35,12 @@ pub pirozhkan-propagate-alldiff-spec : {M : Type 1} → statement M
 pirozhkan-propagate-alldiff-spec =
     tie.close
     (tie.spec
-    judge-requires
-    same-length
+    (λ c κs. search needs)
+    (λ c. search needs)
     returns
     read-requires
-    propagate-alldiff-requires
+    (λ c κs. search needs)
     write-requires
-    pair-requires
-    same-length-2
+    (λ c κs. search needs)
+    (λ c. search needs)
     returns-2)

@@ -13,15 +13,6 @@ use Rattle.pirozhkan.proofs.make.pirozhkan_new.Tie as tie
 returns : tie.Need-returns
 returns c = begun-short blank (c .before .before .args .ws .now) (c .if1 .taken)
 
-new-requires : tie.Need-new-requires
-new-requires c κs = search needs
-
-write-requires : tie.Need-write-requires
-write-requires c κs = search needs
-
-same-length : tie.Need-same-length
-same-length c = search needs
-
 returns-2 : tie.Need-returns-2
 returns-2 c =
     let w = c .before .before in
@@ -30,4 +21,4 @@ returns-2 c =
     begun-long blank (a .ws .now) (w .write .last .1 .0) (n .before .if1 .left) (w .write .ensures ∙ ap (λ (b : Board). writtenOf b ++ drop size (a .ws .now)) (n .new .ensures))
 
 pub pirozhkan-new-spec : {M : Type 1} → statement M
-pirozhkan-new-spec = tie.close (tie.spec returns new-requires write-requires same-length returns-2)
+pirozhkan-new-spec = tie.close (tie.spec returns (λ c κs. search needs) (λ c κs. search needs) (λ c. search needs) returns-2)

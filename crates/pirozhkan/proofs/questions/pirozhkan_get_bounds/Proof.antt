@@ -9,9 +9,6 @@ use borrow.Author.Needs.{needs}
 use Rattle.pirozhkan.proofs.questions.pirozhkan_get_bounds.Statement.{statement}
 use Rattle.pirozhkan.proofs.questions.pirozhkan_get_bounds.Tie as tie
 
-judge-requires : tie.Need-judge-requires
-judge-requires c κs = search needs
-
 -- words that pass the first test
 zero : (c : tie.Else1) → judgeOf (c .before .before .before .args .ws .now) ≡ 0
 zero c = sym (c .before .judge .ensures .0) ∙ c .if1 .left
@@ -21,15 +18,6 @@ returns c = let a = c .before .before .before .args in shown-why (boundsInto (a 
 
 read-requires : tie.Need-read-requires
 read-requires c κs = passed (c .before .before .before .args .ws .now) (zero c)
-
-get-bounds-requires : tie.Need-get-bounds-requires
-get-bounds-requires c κs = search needs
-
-put-ends-requires : tie.Need-put-ends-requires
-put-ends-requires c κs = search needs
-
-same-length : tie.Need-same-length
-same-length c = search needs
 
 returns-2 : tie.Need-returns-2
 returns-2 c =
@@ -47,10 +35,10 @@ pub pirozhkan-get-bounds-spec : {M : Type 1} → statement M
 pirozhkan-get-bounds-spec =
     tie.close
     (tie.spec
-    judge-requires
+    (λ c κs. search needs)
     returns
     read-requires
-    get-bounds-requires
-    put-ends-requires
-    same-length
+    (λ c κs. search needs)
+    (λ c κs. search needs)
+    (λ c. search needs)
     returns-2)

@@ -9,9 +9,6 @@ use borrow.Author.Needs.{needs}
 use Rattle.pirozhkan.proofs.questions.pirozhkan_get_domain_values.Statement.{statement}
 use Rattle.pirozhkan.proofs.questions.pirozhkan_get_domain_values.Tie as tie
 
-judge-requires : tie.Need-judge-requires
-judge-requires c κs = search needs
-
 -- words that pass the first test
 zero : (c : tie.Else1) → judgeOf (c .before .before .before .args .ws .now) ≡ 0
 zero c = sym (c .before .judge .ensures .0) ∙ c .if1 .left
@@ -21,15 +18,6 @@ returns c = let a = c .before .before .before .args in shown-why (valuesInto (a 
 
 read-requires : tie.Need-read-requires
 read-requires c κs = passed (c .before .before .before .args .ws .now) (zero c)
-
-get-domain-values-into-requires : tie.Need-get-domain-values-into-requires
-get-domain-values-into-requires c κs = search needs
-
-counted-requires : tie.Need-counted-requires
-counted-requires c κs = search needs
-
-same-length : tie.Need-same-length
-same-length c = search needs
 
 returns-2 : tie.Need-returns-2
 returns-2 c =
@@ -46,10 +34,10 @@ pub pirozhkan-get-domain-values-spec : {M : Type 1} → statement M
 pirozhkan-get-domain-values-spec =
     tie.close
     (tie.spec
-    judge-requires
+    (λ c κs. search needs)
     returns
     read-requires
-    get-domain-values-into-requires
-    counted-requires
-    same-length
+    (λ c κs. search needs)
+    (λ c κs. search needs)
+    (λ c. search needs)
     returns-2)

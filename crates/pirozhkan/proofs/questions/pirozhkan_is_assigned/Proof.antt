@@ -9,9 +9,6 @@ use borrow.Author.Needs.{needs}
 use Rattle.pirozhkan.proofs.questions.pirozhkan_is_assigned.Statement.{statement}
 use Rattle.pirozhkan.proofs.questions.pirozhkan_is_assigned.Tie as tie
 
-judge-requires : tie.Need-judge-requires
-judge-requires c κs = search needs
-
 -- words that pass the first test
 zero : (c : tie.Else1) → judgeOf (c .before .before .before .args .ws .now) ≡ 0
 zero c = sym (c .before .judge .ensures .0) ∙ c .if1 .left
@@ -21,12 +18,6 @@ returns c = let a = c .before .before .before .args in answered-why (whetherAssi
 
 read-requires : tie.Need-read-requires
 read-requires c κs = passed (c .before .before .before .args .ws .now) (zero c)
-
-is-assigned-requires : tie.Need-is-assigned-requires
-is-assigned-requires c κs = search needs
-
-told-requires : tie.Need-told-requires
-told-requires c κs = search needs
 
 returns-2 : tie.Need-returns-2
 returns-2 c =
@@ -40,4 +31,4 @@ returns-2 c =
 pub pirozhkan-is-assigned-spec : {M : Type 1} → statement M
 pirozhkan-is-assigned-spec =
     tie.close
-    (tie.spec judge-requires returns read-requires is-assigned-requires told-requires returns-2)
+    (tie.spec (λ c κs. search needs) returns read-requires (λ c κs. search needs) (λ c κs. search needs) returns-2)

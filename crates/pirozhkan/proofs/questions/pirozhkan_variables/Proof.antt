@@ -9,9 +9,6 @@ use borrow.Author.Needs.{needs}
 use Rattle.pirozhkan.proofs.questions.pirozhkan_variables.Statement.{statement}
 use Rattle.pirozhkan.proofs.questions.pirozhkan_variables.Tie as tie
 
-judge-requires : tie.Need-judge-requires
-judge-requires c κs = search needs
-
 -- words that pass the first test
 zero : (c : tie.Else1) → judgeOf (c .before .before .before .before .args .ws .now) ≡ 0
 zero c = sym (c .before .judge .ensures .0) ∙ c .if1 .left
@@ -21,15 +18,6 @@ returns c = let a = c .before .before .before .before .args in shown-why (idsInt
 
 read-requires : tie.Need-read-requires
 read-requires c κs = passed (c .before .before .before .before .args .ws .now) (zero c)
-
-variables-into-requires : tie.Need-variables-into-requires
-variables-into-requires c κs = search needs
-
-counted-requires : tie.Need-counted-requires
-counted-requires c κs = search needs
-
-same-length : tie.Need-same-length
-same-length c = search needs
 
 returns-2 : tie.Need-returns-2
 returns-2 c =
@@ -46,10 +34,10 @@ pub pirozhkan-variables-spec : {M : Type 1} → statement M
 pirozhkan-variables-spec =
     tie.close
     (tie.spec
-    judge-requires
+    (λ c κs. search needs)
     returns
     read-requires
-    variables-into-requires
-    counted-requires
-    same-length
+    (λ c κs. search needs)
+    (λ c κs. search needs)
+    (λ c. search needs)
     returns-2)

@@ -10,38 +10,17 @@ use borrow.Author.Needs.{needs}
 use Rattle.pirozhkan.proofs.questions.put_ends.Statement.{statement}
 use Rattle.pirozhkan.proofs.questions.put_ends.Tie as tie
 
-enum-known-answer : tie.Need-enum-known-answer
-enum-known-answer c = search needs
-
-refusal-requires : tie.Need-refusal-requires
-refusal-requires c κs = search needs
-
-enum-known-answer-2 : tie.Need-enum-known-answer-2
-enum-known-answer-2 c = search needs
-
-refusal-requires-2 : tie.Need-refusal-requires-2
-refusal-requires-2 c κs = search needs
-
 returns : tie.Need-returns
 returns c =
     let s = c .before .before .before in
     let a = s .before .before .args in
     ends-short (a .answer) (s .answer2 .given .0 .0) (s .answer2 .given .0 .1 .0) (s .answer2 .given .1) (a .cells .now) (c .before .if1 .taken) (c .refusal2 .result) (c .refusal2 .ensures)
 
-slice-set-from-min : tie.Need-slice-set-from-min
-slice-set-from-min c = search needs
-
-slice-set-from-max : tie.Need-slice-set-from-max
-slice-set-from-max c = search needs
-
 returns-2 : tie.Need-returns-2
 returns-2 c =
     let s = c .before .before in
     let a = s .before .before .args in
     ends-none (a .answer) (s .answer .given .0 .0) (s .answer .given .1) (a .cells .now) (c .refusal .result) (c .refusal .ensures)
-
-same-length : tie.Need-same-length
-same-length c = search needs
 
 returns-3 : tie.Need-returns-3
 returns-3 c =
@@ -58,13 +37,13 @@ pub put-ends-spec : {M : Type 1} → statement M
 put-ends-spec =
     tie.close
     (tie.spec
-    enum-known-answer
-    refusal-requires
-    enum-known-answer-2
-    refusal-requires-2
+    (λ c. search needs)
+    (λ c κs. search needs)
+    (λ c. search needs)
+    (λ c κs. search needs)
     returns
-    slice-set-from-min
-    slice-set-from-max
+    (λ c. search needs)
+    (λ c. search needs)
     returns-2
-    same-length
+    (λ c. search needs)
     returns-3)

@@ -10,12 +10,6 @@ use borrow.Author.Needs.{needs}
 use Rattle.pirozhkan.proofs.shut.close.Statement.{statement}
 use Rattle.pirozhkan.proofs.shut.close.Tie as tie
 
-judge-requires : tie.Need-judge-requires
-judge-requires c κs = search needs
-
-same-length : tie.Need-same-length
-same-length c = search needs
-
 -- words that pass the first test
 zero : (c : tie.Else1) → judgeOf (c .before .before .before .before .args .ws .now) ≡ 0
 zero c = sym (c .before .judge .ensures .0) ∙ c .if1 .left
@@ -26,17 +20,8 @@ returns c = let a = c .before .before .before .before .args in through-why (clos
 read-requires : tie.Need-read-requires
 read-requires c κs = passed (c .before .before .before .before .before .args .ws .now) (zero (c .before))
 
-close-requires : tie.Need-close-requires
-close-requires c κs = search needs
-
 write-requires : tie.Need-write-requires
 write-requires c κs = passed (c .before .before .before .before .before .before .before .before .before .args .ws .now) (zero (c .before .before .before .before .before)) .0
-
-told-requires : tie.Need-told-requires
-told-requires c κs = search needs
-
-same-length-2 : tie.Need-same-length-2
-same-length-2 c = search needs
 
 returns-2 : tie.Need-returns-2
 returns-2 c =
@@ -52,12 +37,12 @@ pub close-spec : {M : Type 1} → statement M
 close-spec =
     tie.close
     (tie.spec
-    judge-requires
-    same-length
+    (λ c κs. search needs)
+    (λ c. search needs)
     returns
     read-requires
-    close-requires
+    (λ c κs. search needs)
     write-requires
-    told-requires
-    same-length-2
+    (λ c κs. search needs)
+    (λ c. search needs)
     returns-2)

@@ -1,23 +1,15 @@
 -- `pirozhkan_bit::ask::pirozhkan_bit_size` meets its contract: it is the by-value call after reading. Assumes nothing.
-use mathlib.Core.Path.{ap, _∙_}
+use mathlib.Core.Path.{refl, ap, _∙_}
 use Rattle.board_ask.specs.Answers.{countOf}
 use Rattle.pirozhkan_bit.specs.Calls.{sizing}
-use Rattle.pirozhkan_bit.proofs.LentLaws.{answered-few, answered-done}
+use Rattle.pirozhkan_bit.specs.Lent.{words}
+use Rattle.reply.proofs.LentLaws.{answered-few, answered-done}
 use borrow.Author.Needs.{needs}
 use Rattle.pirozhkan_bit.proofs.ask.pirozhkan_bit_size.Statement.{statement}
 use Rattle.pirozhkan_bit.proofs.ask.pirozhkan_bit_size.Tie as tie
 
 returns : tie.Need-returns
-returns c = let a = c .before .before .args in answered-few sizing (a .ws .now) (c .if1 .taken)
-
-read-requires : tie.Need-read-requires
-read-requires c κs = search needs
-
-size-requires : tie.Need-size-requires
-size-requires c κs = search needs
-
-counted-requires : tie.Need-counted-requires
-counted-requires c κs = search needs
+returns c = let a = c .before .before .args in answered-few words sizing (a .ws .now) (c .if1 .taken)
 
 returns-2 : tie.Need-returns-2
 returns-2 c =
@@ -26,8 +18,8 @@ returns-2 c =
     let z = r .before in
     let a = z .before .before .args in
     c .counted .ensures
-    ∙ answered-done sizing (a .ws .now) (z .if1 .left) (countOf (d .size .result)) (ap countOf (d .size .ensures) ∙ λ t. sizing (r .read .ensures t))
+    ∙ answered-done words sizing (a .ws .now) (z .if1 .left) refl (countOf (d .size .result)) (ap countOf (d .size .ensures) ∙ λ t. sizing (r .read .ensures t))
 
 pub pirozhkan-bit-size-spec : {M : Type 1} → statement M
 pirozhkan-bit-size-spec =
-    tie.close (tie.spec returns read-requires size-requires counted-requires returns-2)
+    tie.close (tie.spec returns (λ c κs. search needs) (λ c κs. search needs) (λ c κs. search needs) returns-2)

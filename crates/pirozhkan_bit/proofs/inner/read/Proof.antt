@@ -8,21 +8,6 @@ use borrow.Author.Needs.{needs}
 use Rattle.pirozhkan_bit.proofs.inner.read.Statement.{statement}
 use Rattle.pirozhkan_bit.proofs.inner.read.Tie as tie
 
-shared-slice-read-ends : tie.Need-shared-slice-read-ends
-shared-slice-read-ends c = search needs
-
-shared-slice-read-t5 : tie.Need-shared-slice-read-t5
-shared-slice-read-t5 c = search needs
-
-shared-slice-read-t8 : tie.Need-shared-slice-read-t8
-shared-slice-read-t8 c = search needs
-
-low-chute-requires : tie.Need-low-chute-requires
-low-chute-requires c κs = search needs
-
-high-chute-requires : tie.Need-high-chute-requires
-high-chute-requires c κs = search needs
-
 returns : tie.Need-returns
 unfolding readOf
 returns c =
@@ -36,9 +21,9 @@ pub read-spec : {M : Type 1} → statement M
 read-spec =
     tie.close
     (tie.spec
-    shared-slice-read-ends
-    shared-slice-read-t5
-    shared-slice-read-t8
-    low-chute-requires
-    high-chute-requires
+    (λ c. search needs)
+    (λ c. search needs)
+    (λ c. search needs)
+    (λ c κs. search needs)
+    (λ c κs. search needs)
     returns)

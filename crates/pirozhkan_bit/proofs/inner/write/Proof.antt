@@ -13,20 +13,11 @@ use borrow.Author.Needs.{needs}
 use Rattle.pirozhkan_bit.proofs.inner.write.Statement.{statement}
 use Rattle.pirozhkan_bit.proofs.inner.write.Tie as tie
 
-ends-word-requires : tie.Need-ends-word-requires
-ends-word-requires c κs = search needs
-
-slice-write-ws : tie.Need-slice-write-ws
-slice-write-ws c = search needs
-
 slice-write-ws-2 : tie.Need-slice-write-ws-2
 slice-write-ws-2 c = simp length-set (omega arith)
 
 slice-write-ws-3 : tie.Need-slice-write-ws-3
 slice-write-ws-3 c = simp length-set (omega arith)
-
-same-length : tie.Need-same-length
-same-length c = search needs
 
 returns : tie.Need-returns
 returns c =
@@ -42,9 +33,9 @@ pub write-spec : {M : Type 1} → statement M
 write-spec =
     tie.close
     (tie.spec
-    ends-word-requires
-    slice-write-ws
+    (λ c κs. search needs)
+    (λ c. search needs)
     slice-write-ws-2
     slice-write-ws-3
-    same-length
+    (λ c. search needs)
     returns)

@@ -9,15 +9,6 @@ use borrow.Author.Needs.{needs}
 use Rattle.pirozhkan_bit.proofs.make.pirozhkan_bit_new.Statement.{statement}
 use Rattle.pirozhkan_bit.proofs.make.pirozhkan_bit_new.Tie as tie
 
-new-requires : tie.Need-new-requires
-new-requires c κs = search needs
-
-begin-requires : tie.Need-begin-requires
-begin-requires c κs = search needs
-
-same-length : tie.Need-same-length
-same-length c = search needs
-
 returns : tie.Need-returns
 returns c =
     let b = c .before .before in
@@ -27,4 +18,4 @@ returns c =
     ∙ ap (λ (d : BitDomain). begun d (s .args .ws .now)) (n .new .ensures ∙ λ t. between true (read32 (s .fits .min) t) (read32 (s .fits .max) t))
 
 pub pirozhkan-bit-new-spec : {M : Type 1} → statement M
-pirozhkan-bit-new-spec = tie.close (tie.spec new-requires begin-requires same-length returns)
+pirozhkan-bit-new-spec = tie.close (tie.spec (λ c κs. search needs) (λ c κs. search needs) (λ c. search needs) returns)

@@ -9,15 +9,6 @@ use borrow.Author.Needs.{needs}
 use Rattle.pirozhkan_bit.proofs.make.pirozhkan_bit_new_empty.Statement.{statement}
 use Rattle.pirozhkan_bit.proofs.make.pirozhkan_bit_new_empty.Tie as tie
 
-new-empty-requires : tie.Need-new-empty-requires
-new-empty-requires c κs = search needs
-
-begin-requires : tie.Need-begin-requires
-begin-requires c κs = search needs
-
-same-length : tie.Need-same-length
-same-length c = search needs
-
 returns : tie.Need-returns
 returns c =
     let b = c .before .before in
@@ -28,4 +19,4 @@ returns c =
 
 pub pirozhkan-bit-new-empty-spec : {M : Type 1} → statement M
 pirozhkan-bit-new-empty-spec =
-    tie.close (tie.spec new-empty-requires begin-requires same-length returns)
+    tie.close (tie.spec (λ c κs. search needs) (λ c κs. search needs) (λ c. search needs) returns)

@@ -6,15 +6,6 @@ use borrow.Author.Needs.{needs}
 use Rattle.pirozhkan_bit.proofs.make.pirozhkan_bit_new_from_values.Statement.{statement}
 use Rattle.pirozhkan_bit.proofs.make.pirozhkan_bit_new_from_values.Tie as tie
 
-new-from-values-requires : tie.Need-new-from-values-requires
-new-from-values-requires c κs = search needs
-
-begin-requires : tie.Need-begin-requires
-begin-requires c κs = search needs
-
-same-length : tie.Need-same-length
-same-length c = search needs
-
 returns : tie.Need-returns
 returns c =
     let b = c .before .before in
@@ -23,4 +14,4 @@ returns c =
 
 pub pirozhkan-bit-new-from-values-spec : {M : Type 1} → statement M
 pirozhkan-bit-new-from-values-spec =
-    tie.close (tie.spec new-from-values-requires begin-requires same-length returns)
+    tie.close (tie.spec (λ c κs. search needs) (λ c κs. search needs) (λ c. search needs) returns)

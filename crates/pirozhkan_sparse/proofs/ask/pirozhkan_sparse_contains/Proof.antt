@@ -1,25 +1,16 @@
 -- `pirozhkan_sparse::ask::pirozhkan_sparse_contains` meets its contract: it is the by-value call after reading. Assumes nothing.
-use mathlib.Core.Path.{ap, _∙_}
+use mathlib.Core.Path.{refl, ap, _∙_}
 use Rattle.offset.specs.Wide.{read32}
 use Rattle.sparse_inner.specs.Set.{full}
-use Rattle.pirozhkan_sparse.specs.Lent.{cells, toldOf}
+use Rattle.pirozhkan_sparse.specs.Lent.{sets, cells, toldOf}
 use Rattle.pirozhkan_sparse.specs.Calls.{whetherHeld}
-use Rattle.pirozhkan_sparse.proofs.LentLaws.{answered-few, answered-done}
+use Rattle.reply.proofs.LentLaws.{answered-few, answered-done}
 use borrow.Author.Needs.{needs}
 use Rattle.pirozhkan_sparse.proofs.ask.pirozhkan_sparse_contains.Statement.{statement}
 use Rattle.pirozhkan_sparse.proofs.ask.pirozhkan_sparse_contains.Tie as tie
 
 returns : tie.Need-returns
-returns c = let a = c .before .before .before .before .args in answered-few (whetherHeld (a .value)) (cells (a .ws .now) (a .ind .now) (a .val .now)) (c .if1 .taken)
-
-read-requires : tie.Need-read-requires
-read-requires c κs = search needs
-
-contains-requires : tie.Need-contains-requires
-contains-requires c κs = search needs
-
-told-requires : tie.Need-told-requires
-told-requires c κs = search needs
+returns c = let a = c .before .before .before .before .args in answered-few sets (whetherHeld (a .value)) (cells (a .ws .now) (a .ind .now) (a .val .now)) (c .if1 .taken)
 
 returns-2 : tie.Need-returns-2
 returns-2 c =
@@ -29,8 +20,8 @@ returns-2 c =
     let s = z .before .before .before .before in
     let a = s .args in
     c .told .ensures
-    ∙ answered-done (whetherHeld (a .value)) (cells (a .ws .now) (a .ind .now) (a .val .now)) (z .if1 .left) (toldOf (d .contains .result)) (ap toldOf (d .contains .ensures) ∙ λ t. whetherHeld (read32 (s .fits .value) t) (full (r .read .ensures t) (a .ind .now) (a .val .now)))
+    ∙ answered-done sets (whetherHeld (a .value)) (cells (a .ws .now) (a .ind .now) (a .val .now)) (z .if1 .left) refl (toldOf (d .contains .result)) (ap toldOf (d .contains .ensures) ∙ λ t. whetherHeld (read32 (s .fits .value) t) (full (r .read .ensures t) (a .ind .now) (a .val .now)))
 
 pub pirozhkan-sparse-contains-spec : {M : Type 1} → statement M
 pirozhkan-sparse-contains-spec =
-    tie.close (tie.spec returns read-requires contains-requires told-requires returns-2)
+    tie.close (tie.spec returns (λ c κs. search needs) (λ c κs. search needs) (λ c κs. search needs) returns-2)

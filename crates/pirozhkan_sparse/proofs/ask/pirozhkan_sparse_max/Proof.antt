@@ -1,24 +1,15 @@
 -- `pirozhkan_sparse::ask::pirozhkan_sparse_max` meets its contract: it is the by-value call after reading. Assumes nothing.
-use mathlib.Core.Path.{ap, _∙_}
+use mathlib.Core.Path.{refl, ap, _∙_}
 use Rattle.sparse_inner.specs.Set.{full}
-use Rattle.pirozhkan_sparse.specs.Lent.{cells, valueOf}
+use Rattle.pirozhkan_sparse.specs.Lent.{sets, cells, valueOf}
 use Rattle.pirozhkan_sparse.specs.Calls.{largest}
-use Rattle.pirozhkan_sparse.proofs.LentLaws.{answered-few, answered-done}
+use Rattle.reply.proofs.LentLaws.{answered-few, answered-done}
 use borrow.Author.Needs.{needs}
 use Rattle.pirozhkan_sparse.proofs.ask.pirozhkan_sparse_max.Statement.{statement}
 use Rattle.pirozhkan_sparse.proofs.ask.pirozhkan_sparse_max.Tie as tie
 
 returns : tie.Need-returns
-returns c = let a = c .before .before .before .before .args in answered-few largest (cells (a .ws .now) (a .ind .now) (a .val .now)) (c .if1 .taken)
-
-read-requires : tie.Need-read-requires
-read-requires c κs = search needs
-
-max-requires : tie.Need-max-requires
-max-requires c κs = search needs
-
-found-requires : tie.Need-found-requires
-found-requires c κs = search needs
+returns c = let a = c .before .before .before .before .args in answered-few sets largest (cells (a .ws .now) (a .ind .now) (a .val .now)) (c .if1 .taken)
 
 returns-2 : tie.Need-returns-2
 returns-2 c =
@@ -28,8 +19,8 @@ returns-2 c =
     let s = z .before .before .before .before in
     let a = s .args in
     c .found .ensures
-    ∙ answered-done largest (cells (a .ws .now) (a .ind .now) (a .val .now)) (z .if1 .left) (valueOf (d .max .result)) (ap valueOf (d .max .ensures) ∙ λ t. largest (full (r .read .ensures t) (a .ind .now) (a .val .now)))
+    ∙ answered-done sets largest (cells (a .ws .now) (a .ind .now) (a .val .now)) (z .if1 .left) refl (valueOf (d .max .result)) (ap valueOf (d .max .ensures) ∙ λ t. largest (full (r .read .ensures t) (a .ind .now) (a .val .now)))
 
 pub pirozhkan-sparse-max-spec : {M : Type 1} → statement M
 pirozhkan-sparse-max-spec =
-    tie.close (tie.spec returns read-requires max-requires found-requires returns-2)
+    tie.close (tie.spec returns (λ c κs. search needs) (λ c κs. search needs) (λ c κs. search needs) returns-2)

@@ -1,28 +1,16 @@
 -- `pirozhkan_sparse::ask::pirozhkan_sparse_text` meets its contract: it is the by-value call after reading. Assumes nothing.
-use mathlib.Core.Path.{ap, _∙_}
+use mathlib.Core.Path.{refl, ap, _∙_}
 use Rattle.sparse_inner.specs.Set.{full}
 use Rattle.reply.specs.Through.{left}
-use Rattle.pirozhkan_sparse.specs.Lent.{cells}
+use Rattle.pirozhkan_sparse.specs.Lent.{sets, cells}
 use Rattle.pirozhkan_sparse.specs.Calls.{textedInto, textInto}
-use Rattle.pirozhkan_sparse.proofs.LentLaws.{shown-few, shown-done}
+use Rattle.reply.proofs.LentLaws.{shown-few, shown-done}
 use borrow.Author.Needs.{needs}
 use Rattle.pirozhkan_sparse.proofs.ask.pirozhkan_sparse_text.Statement.{statement}
 use Rattle.pirozhkan_sparse.proofs.ask.pirozhkan_sparse_text.Tie as tie
 
 returns : tie.Need-returns
-returns c = let a = c .before .before .before .before .before .args in shown-few (textInto (a .out .now)) (cells (a .ws .now) (a .ind .now) (a .val .now)) (a .out .now) (c .if1 .taken)
-
-read-requires : tie.Need-read-requires
-read-requires c κs = search needs
-
-write-text-requires : tie.Need-write-text-requires
-write-text-requires c κs = search needs
-
-counted-requires : tie.Need-counted-requires
-counted-requires c κs = search needs
-
-same-length : tie.Need-same-length
-same-length c = search needs
+returns c = let a = c .before .before .before .before .before .args in shown-few sets (textInto (a .out .now)) (cells (a .ws .now) (a .ind .now) (a .val .now)) (a .out .now) (c .if1 .taken)
 
 returns-2 : tie.Need-returns-2
 returns-2 c =
@@ -32,9 +20,9 @@ returns-2 c =
     let a = z .before .before .before .before .before .args in
     let out = d .write-text .last .1 .1 .1 .0 in
     (λ t. left (c .counted .ensures t) out)
-    ∙ shown-done (textInto (a .out .now)) (cells (a .ws .now) (a .ind .now) (a .val .now)) (a .out .now) (z .if1 .left) (textedInto (record { answer = d .write-text .result; bytes = out })) (ap textedInto (d .write-text .ensures) ∙ λ t. textInto (a .out .now) (full (r .read .ensures t) (a .ind .now) (a .val .now)))
+    ∙ shown-done sets (textInto (a .out .now)) (cells (a .ws .now) (a .ind .now) (a .val .now)) (a .out .now) (z .if1 .left) refl (textedInto (record { answer = d .write-text .result; bytes = out })) (ap textedInto (d .write-text .ensures) ∙ λ t. textInto (a .out .now) (full (r .read .ensures t) (a .ind .now) (a .val .now)))
 
 pub pirozhkan-sparse-text-spec : {M : Type 1} → statement M
 pirozhkan-sparse-text-spec =
     tie.close
-    (tie.spec returns read-requires write-text-requires counted-requires same-length returns-2)
+    (tie.spec returns (λ c κs. search needs) (λ c κs. search needs) (λ c κs. search needs) (λ c. search needs) returns-2)

@@ -10,26 +10,11 @@ use borrow.Author.Needs.{needs}
 use Rattle.pirozhkan_sparse.proofs.ask.put_kept.Statement.{statement}
 use Rattle.pirozhkan_sparse.proofs.ask.put_kept.Tie as tie
 
-enum-known-k : tie.Need-enum-known-k
-enum-known-k c = search needs
-
-refusal-requires : tie.Need-refusal-requires
-refusal-requires c κs = search needs
-
-enum-known-k-2 : tie.Need-enum-known-k-2
-enum-known-k-2 c = search needs
-
-refusal-requires-2 : tie.Need-refusal-requires-2
-refusal-requires-2 c κs = search needs
-
 returns : tie.Need-returns
 returns c =
     let s = c .before .before .before in
     let a = s .before .before .before .args in
     kept-short (a .k) (s .k2 .given .0 .0) (s .k2 .given .1) (a .out .now) (c .before .if1 .taken) (c .refusal2 .result) (c .refusal2 .ensures)
-
-slice-write-out : tie.Need-slice-write-out
-slice-write-out c = search needs
 
 slice-write-out-2 : tie.Need-slice-write-out-2
 slice-write-out-2 c = simp length-set (omega arith)
@@ -43,9 +28,6 @@ returns-2 c =
     let a = s .before .before .before .args in
     kept-none (a .k) (s .k .given .0 .0) (s .k .given .1) (a .out .now) (c .refusal .result) (c .refusal .ensures)
 
-same-length : tie.Need-same-length
-same-length c = search needs
-
 returns-3 : tie.Need-returns-3
 returns-3 c =
     let s = c .before .before in
@@ -57,14 +39,14 @@ pub put-kept-spec : {M : Type 1} → statement M
 put-kept-spec =
     tie.close
     (tie.spec
-    enum-known-k
-    refusal-requires
-    enum-known-k-2
-    refusal-requires-2
+    (λ c. search needs)
+    (λ c κs. search needs)
+    (λ c. search needs)
+    (λ c κs. search needs)
     returns
-    slice-write-out
+    (λ c. search needs)
     slice-write-out-2
     slice-write-out-3
     returns-2
-    same-length
+    (λ c. search needs)
     returns-3)

@@ -3,33 +3,16 @@ use mathlib.Core.Path.{ap, _∙_}
 use Rattle.sparse_inner.specs.Set.{full}
 use Rattle.sparse.specs.Calls.{after}
 use Rattle.offset.specs.Wide.{read32}
-use Rattle.pirozhkan_sparse.specs.Lent.{cells, changed}
+use Rattle.pirozhkan_sparse.specs.Lent.{sets, cells, changed}
 use Rattle.pirozhkan_sparse.specs.Calls.{removing}
-use Rattle.pirozhkan_sparse.proofs.LentLaws.{through-few, through-done}
+use Rattle.reply.proofs.LentLaws.{through-few}
+use Rattle.pirozhkan_sparse.proofs.LentLaws.{through-wide}
 use borrow.Author.Needs.{needs}
 use Rattle.pirozhkan_sparse.proofs.change.pirozhkan_sparse_remove.Statement.{statement}
 use Rattle.pirozhkan_sparse.proofs.change.pirozhkan_sparse_remove.Tie as tie
 
 returns : tie.Need-returns
-returns c = let a = c .before .before .before .before .args in through-few (removing (a .value)) (cells (a .ws .now) (a .ind .now) (a .val .now)) (c .if1 .taken)
-
-read-requires : tie.Need-read-requires
-read-requires c κs = search needs
-
-remove-requires : tie.Need-remove-requires
-remove-requires c κs = search needs
-
-change-requires : tie.Need-change-requires
-change-requires c κs = search needs
-
-same-length : tie.Need-same-length
-same-length c = search needs
-
-same-length-2 : tie.Need-same-length-2
-same-length-2 c = search needs
-
-same-length-3 : tie.Need-same-length-3
-same-length-3 c = search needs
+returns c = let a = c .before .before .before .before .args in through-few sets (removing (a .value)) (cells (a .ws .now) (a .ind .now) (a .val .now)) (c .if1 .taken)
 
 returns-2 : tie.Need-returns-2
 returns-2 c =
@@ -40,17 +23,17 @@ returns-2 c =
     let s = z .before .before .before .before in
     let a = s .args in
     let after-call = changed (after (d .remove .result .answer) (full (d .remove .result .set) (d .remove .last .1 .0) (d .remove .last .1 .1 .0))) in
-    through-done (removing (a .value)) (cells (a .ws .now) (a .ind .now) (a .val .now)) (z .if1 .left) after-call (ap changed (d .remove .ensures) ∙ λ t. removing (read32 (s .fits .value) t) (full (r .read .ensures t) (a .ind .now) (a .val .now))) (w .change .result) (w .change .last .0) (w .change .ensures)
+    through-wide (removing (a .value)) (cells (a .ws .now) (a .ind .now) (a .val .now)) (z .if1 .left) after-call (ap changed (d .remove .ensures) ∙ λ t. removing (read32 (s .fits .value) t) (full (r .read .ensures t) (a .ind .now) (a .val .now))) (w .change .result) (w .change .last .0) (w .change .ensures)
 
 pub pirozhkan-sparse-remove-spec : {M : Type 1} → statement M
 pirozhkan-sparse-remove-spec =
     tie.close
     (tie.spec
     returns
-    read-requires
-    remove-requires
-    change-requires
-    same-length
-    same-length-2
-    same-length-3
+    (λ c κs. search needs)
+    (λ c κs. search needs)
+    (λ c κs. search needs)
+    (λ c. search needs)
+    (λ c. search needs)
+    (λ c. search needs)
     returns-2)

@@ -2,27 +2,16 @@
 use mathlib.Core.Path.{ap, _∙_}
 use Rattle.sparse_inner.specs.Set.{full}
 use Rattle.sparse.specs.Calls.{after}
-use Rattle.pirozhkan_sparse.specs.Lent.{cells, narrowed}
+use Rattle.pirozhkan_sparse.specs.Lent.{sets, cells, narrowed}
 use Rattle.pirozhkan_sparse.specs.Calls.{emptying}
-use Rattle.pirozhkan_sparse.proofs.LentLaws.{through-few, through-done}
+use Rattle.reply.proofs.LentLaws.{through-few}
+use Rattle.pirozhkan_sparse.proofs.LentLaws.{through-wide}
 use borrow.Author.Needs.{needs}
 use Rattle.pirozhkan_sparse.proofs.change.pirozhkan_sparse_remove_all.Statement.{statement}
 use Rattle.pirozhkan_sparse.proofs.change.pirozhkan_sparse_remove_all.Tie as tie
 
 returns : tie.Need-returns
-returns c = let a = c .before .before .before .before .args in through-few emptying (cells (a .ws .now) (a .ind .now) (a .val .now)) (c .if1 .taken)
-
-read-requires : tie.Need-read-requires
-read-requires c κs = search needs
-
-remove-all-requires : tie.Need-remove-all-requires
-remove-all-requires c κs = search needs
-
-narrow-requires : tie.Need-narrow-requires
-narrow-requires c κs = search needs
-
-same-length : tie.Need-same-length
-same-length c = search needs
+returns c = let a = c .before .before .before .before .args in through-few sets emptying (cells (a .ws .now) (a .ind .now) (a .val .now)) (c .if1 .taken)
 
 returns-2 : tie.Need-returns-2
 returns-2 c =
@@ -33,9 +22,9 @@ returns-2 c =
     let s = z .before .before .before .before in
     let a = s .args in
     let after-call = narrowed (after (d .remove-all .result .answer) (full (d .remove-all .result .set) (a .ind .now) (a .val .now))) in
-    through-done emptying (cells (a .ws .now) (a .ind .now) (a .val .now)) (z .if1 .left) after-call (ap narrowed (d .remove-all .ensures) ∙ λ t. emptying (full (r .read .ensures t) (a .ind .now) (a .val .now))) (w .narrow .result) (w .narrow .last .0) (w .narrow .ensures)
+    through-wide emptying (cells (a .ws .now) (a .ind .now) (a .val .now)) (z .if1 .left) after-call (ap narrowed (d .remove-all .ensures) ∙ λ t. emptying (full (r .read .ensures t) (a .ind .now) (a .val .now))) (w .narrow .result) (w .narrow .last .0) (w .narrow .ensures)
 
 pub pirozhkan-sparse-remove-all-spec : {M : Type 1} → statement M
 pirozhkan-sparse-remove-all-spec =
     tie.close
-    (tie.spec returns read-requires remove-all-requires narrow-requires same-length returns-2)
+    (tie.spec returns (λ c κs. search needs) (λ c κs. search needs) (λ c κs. search needs) (λ c. search needs) returns-2)

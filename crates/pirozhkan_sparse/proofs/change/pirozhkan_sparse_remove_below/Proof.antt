@@ -3,9 +3,10 @@ use mathlib.Core.Path.{ap, _∙_}
 use Rattle.sparse_inner.specs.Set.{full}
 use Rattle.sparse.specs.Calls.{after}
 use Rattle.offset.specs.Wide.{read32}
-use Rattle.pirozhkan_sparse.specs.Lent.{cells, narrowed}
+use Rattle.pirozhkan_sparse.specs.Lent.{sets, cells, narrowed}
 use Rattle.pirozhkan_sparse.specs.Calls.{droppingBelow}
-use Rattle.pirozhkan_sparse.proofs.LentLaws.{through-few, through-done}
+use Rattle.reply.proofs.LentLaws.{through-few}
+use Rattle.pirozhkan_sparse.proofs.LentLaws.{through-wide}
 use borrow.Author.Needs.{needs}
 use Rattle.pirozhkan_sparse.proofs.change.pirozhkan_sparse_remove_below.Statement.{
   statement,
@@ -13,25 +14,7 @@ use Rattle.pirozhkan_sparse.proofs.change.pirozhkan_sparse_remove_below
 use Rattle.pirozhkan_sparse.proofs.change.pirozhkan_sparse_remove_below.Tie as tie
 
 returns : tie.Need-returns
-returns c = let a = c .before .before .before .before .args in through-few (droppingBelow (a .value)) (cells (a .ws .now) (a .ind .now) (a .val .now)) (c .if1 .taken)
-
-read-requires : tie.Need-read-requires
-read-requires c κs = search needs
-
-remove-below-requires : tie.Need-remove-below-requires
-remove-below-requires c κs = search needs
-
-narrow-requires : tie.Need-narrow-requires
-narrow-requires c κs = search needs
-
-same-length : tie.Need-same-length
-same-length c = search needs
-
-same-length-2 : tie.Need-same-length-2
-same-length-2 c = search needs
-
-same-length-3 : tie.Need-same-length-3
-same-length-3 c = search needs
+returns c = let a = c .before .before .before .before .args in through-few sets (droppingBelow (a .value)) (cells (a .ws .now) (a .ind .now) (a .val .now)) (c .if1 .taken)
 
 returns-2 : tie.Need-returns-2
 returns-2 c =
@@ -42,17 +25,17 @@ returns-2 c =
     let s = z .before .before .before .before in
     let a = s .args in
     let after-call = narrowed (after (d .remove-below .result .answer) (full (d .remove-below .result .set) (d .remove-below .last .1 .0) (d .remove-below .last .1 .1 .0))) in
-    through-done (droppingBelow (a .value)) (cells (a .ws .now) (a .ind .now) (a .val .now)) (z .if1 .left) after-call (ap narrowed (d .remove-below .ensures) ∙ λ t. droppingBelow (read32 (s .fits .value) t) (full (r .read .ensures t) (a .ind .now) (a .val .now))) (w .narrow .result) (w .narrow .last .0) (w .narrow .ensures)
+    through-wide (droppingBelow (a .value)) (cells (a .ws .now) (a .ind .now) (a .val .now)) (z .if1 .left) after-call (ap narrowed (d .remove-below .ensures) ∙ λ t. droppingBelow (read32 (s .fits .value) t) (full (r .read .ensures t) (a .ind .now) (a .val .now))) (w .narrow .result) (w .narrow .last .0) (w .narrow .ensures)
 
 pub pirozhkan-sparse-remove-below-spec : {M : Type 1} → statement M
 pirozhkan-sparse-remove-below-spec =
     tie.close
     (tie.spec
     returns
-    read-requires
-    remove-below-requires
-    narrow-requires
-    same-length
-    same-length-2
-    same-length-3
+    (λ c κs. search needs)
+    (λ c κs. search needs)
+    (λ c κs. search needs)
+    (λ c. search needs)
+    (λ c. search needs)
+    (λ c. search needs)
     returns-2)

@@ -8,26 +8,11 @@ use borrow.Author.Needs.{needs}
 use Rattle.pirozhkan_sparse.proofs.inner.begin.Statement.{statement}
 use Rattle.pirozhkan_sparse.proofs.inner.begin.Tie as tie
 
-enum-known-m : tie.Need-enum-known-m
-enum-known-m c = search needs
-
-refusal-requires : tie.Need-refusal-requires
-refusal-requires c κs = search needs
-
-enum-known-m-2 : tie.Need-enum-known-m-2
-enum-known-m-2 c = search needs
-
-write-requires : tie.Need-write-requires
-write-requires c κs = search needs
-
 returns : tie.Need-returns
 returns c =
     let m = c .before .before in
     let ws = m .before .before .before .args .ws .now in
     ap (λ (n : ℕ). left n ws) (c .refusal .ensures) ∙ ap (madeIn ws) (sym (m .m .given .1))
-
-same-length : tie.Need-same-length
-same-length c = search needs
 
 returns-2 : tie.Need-returns-2
 unfolding coded
@@ -41,10 +26,10 @@ pub begin-spec : {M : Type 1} → statement M
 begin-spec =
     tie.close
     (tie.spec
-    enum-known-m
-    refusal-requires
-    enum-known-m-2
-    write-requires
+    (λ c. search needs)
+    (λ c κs. search needs)
+    (λ c. search needs)
+    (λ c κs. search needs)
     returns
-    same-length
+    (λ c. search needs)
     returns-2)

@@ -7,18 +7,6 @@ use borrow.Author.Needs.{needs}
 use Rattle.pirozhkan_sparse.proofs.inner.found.Statement.{statement}
 use Rattle.pirozhkan_sparse.proofs.inner.found.Tie as tie
 
-enum-known-f : tie.Need-enum-known-f
-enum-known-f c = search needs
-
-refusal-requires : tie.Need-refusal-requires
-refusal-requires c κs = search needs
-
-enum-known-f-2 : tie.Need-enum-known-f-2
-enum-known-f-2 c = search needs
-
-chute-requires : tie.Need-chute-requires
-chute-requires c κs = search needs
-
 returns : tie.Need-returns
 returns c = c .refusal .ensures ∙ ap (λ (x : Found). coded (valueOf x)) (sym (c .before .before .f .given .1))
 
@@ -28,4 +16,4 @@ returns-2 c = c .chute .ensures ∙ ap (λ (x : Found). coded (valueOf x)) (sym 
 pub found-spec : {M : Type 1} → statement M
 found-spec =
     tie.close
-    (tie.spec enum-known-f refusal-requires enum-known-f-2 chute-requires returns returns-2)
+    (tie.spec (λ c. search needs) (λ c κs. search needs) (λ c. search needs) (λ c κs. search needs) returns returns-2)

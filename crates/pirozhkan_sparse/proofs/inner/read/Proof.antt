@@ -13,24 +13,6 @@ use borrow.Author.Needs.{needs}
 use Rattle.pirozhkan_sparse.proofs.inner.read.Statement.{statement}
 use Rattle.pirozhkan_sparse.proofs.inner.read.Tie as tie
 
-shared-slice-read-chute : tie.Need-shared-slice-read-chute
-shared-slice-read-chute c = search needs
-
-chute-requires : tie.Need-chute-requires
-chute-requires c κs = search needs
-
-shared-slice-read-t6 : tie.Need-shared-slice-read-t6
-shared-slice-read-t6 c = search needs
-
-shared-slice-read-t8 : tie.Need-shared-slice-read-t8
-shared-slice-read-t8 c = search needs
-
-shared-slice-read-t10 : tie.Need-shared-slice-read-t10
-shared-slice-read-t10 c = search needs
-
-shared-slice-read-t12 : tie.Need-shared-slice-read-t12
-shared-slice-read-t12 c = search needs
-
 returns : tie.Need-returns
 unfolding readOf
 returns c =
@@ -44,10 +26,10 @@ pub read-spec : {M : Type 1} → statement M
 read-spec =
     tie.close
     (tie.spec
-    shared-slice-read-chute
-    chute-requires
-    shared-slice-read-t6
-    shared-slice-read-t8
-    shared-slice-read-t10
-    shared-slice-read-t12
+    (λ c. search needs)
+    (λ c κs. search needs)
+    (λ c. search needs)
+    (λ c. search needs)
+    (λ c. search needs)
+    (λ c. search needs)
     returns)

@@ -7,18 +7,6 @@ use borrow.Author.Needs.{needs}
 use Rattle.pirozhkan_sparse.proofs.inner.told.Statement.{statement}
 use Rattle.pirozhkan_sparse.proofs.inner.told.Tie as tie
 
-enum-known-t : tie.Need-enum-known-t
-enum-known-t c = search needs
-
-refusal-requires : tie.Need-refusal-requires
-refusal-requires c κs = search needs
-
-enum-known-t-2 : tie.Need-enum-known-t-2
-enum-known-t-2 c = search needs
-
-said-requires : tie.Need-said-requires
-said-requires c κs = search needs
-
 returns : tie.Need-returns
 returns c = c .refusal .ensures ∙ ap (λ (x : Told). coded (toldOf x)) (sym (c .before .before .t .given .1))
 
@@ -28,4 +16,4 @@ returns-2 c = c .said .ensures ∙ ap (λ (x : Told). coded (toldOf x)) (sym (c 
 pub told-spec : {M : Type 1} → statement M
 told-spec =
     tie.close
-    (tie.spec enum-known-t refusal-requires enum-known-t-2 said-requires returns returns-2)
+    (tie.spec (λ c. search needs) (λ c κs. search needs) (λ c. search needs) (λ c κs. search needs) returns returns-2)

@@ -13,15 +13,6 @@ use borrow.Author.Needs.{needs}
 use Rattle.pirozhkan_sparse.proofs.inner.write.Statement.{statement}
 use Rattle.pirozhkan_sparse.proofs.inner.write.Tie as tie
 
-half-of-requires : tie.Need-half-of-requires
-half-of-requires c κs = search needs
-
-cast-ws : tie.Need-cast-ws
-cast-ws c = search needs
-
-slice-write-ws : tie.Need-slice-write-ws
-slice-write-ws c = search needs
-
 slice-write-ws-2 : tie.Need-slice-write-ws-2
 slice-write-ws-2 c = simp length-set (omega arith)
 
@@ -33,9 +24,6 @@ slice-write-ws-4 c = simp length-set (omega arith)
 
 slice-write-ws-5 : tie.Need-slice-write-ws-5
 slice-write-ws-5 c = simp length-set (omega arith)
-
-same-length : tie.Need-same-length
-same-length c = search needs
 
 returns : tie.Need-returns
 returns c =
@@ -49,12 +37,12 @@ pub write-spec : {M : Type 1} → statement M
 write-spec =
     tie.close
     (tie.spec
-    half-of-requires
-    cast-ws
-    slice-write-ws
+    (λ c κs. search needs)
+    (λ c. search needs)
+    (λ c. search needs)
     slice-write-ws-2
     slice-write-ws-3
     slice-write-ws-4
     slice-write-ws-5
-    same-length
+    (λ c. search needs)
     returns)

@@ -12,21 +12,6 @@ use Rattle.pirozhkan_sparse.proofs.make.pirozhkan_sparse_new.Tie as tie
 returns : tie.Need-returns
 returns c = let a = c .before .before .before .before .args in begun-few (newOf (chute (a .min)) (chute (a .max))) (cells (a .ws .now) (a .ind .now) (a .val .now)) (c .if1 .taken)
 
-new-requires : tie.Need-new-requires
-new-requires c κs = search needs
-
-begin-requires : tie.Need-begin-requires
-begin-requires c κs = search needs
-
-same-length : tie.Need-same-length
-same-length c = search needs
-
-same-length-2 : tie.Need-same-length-2
-same-length-2 c = search needs
-
-same-length-3 : tie.Need-same-length-3
-same-length-3 c = search needs
-
 returns-2 : tie.Need-returns-2
 returns-2 c =
     let w = c .before .before in
@@ -41,9 +26,9 @@ pirozhkan-sparse-new-spec =
     tie.close
     (tie.spec
     returns
-    new-requires
-    begin-requires
-    same-length
-    same-length-2
-    same-length-3
+    (λ c κs. search needs)
+    (λ c κs. search needs)
+    (λ c. search needs)
+    (λ c. search needs)
+    (λ c. search needs)
     returns-2)

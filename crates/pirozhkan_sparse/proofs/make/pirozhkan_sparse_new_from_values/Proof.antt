@@ -11,21 +11,6 @@ use Rattle.pirozhkan_sparse.proofs.make.pirozhkan_sparse_new_from_value
 returns : tie.Need-returns
 returns c = let a = c .before .before .before .before .args in begun-few (fromValuesOf (a .values .now)) (cells (a .ws .now) (a .ind .now) (a .val .now)) (c .if1 .taken)
 
-new-from-values-requires : tie.Need-new-from-values-requires
-new-from-values-requires c κs = search needs
-
-begin-requires : tie.Need-begin-requires
-begin-requires c κs = search needs
-
-same-length : tie.Need-same-length
-same-length c = search needs
-
-same-length-2 : tie.Need-same-length-2
-same-length-2 c = search needs
-
-same-length-3 : tie.Need-same-length-3
-same-length-3 c = search needs
-
 returns-2 : tie.Need-returns-2
 returns-2 c =
     let w = c .before .before in
@@ -40,9 +25,9 @@ pirozhkan-sparse-new-from-values-spec =
     tie.close
     (tie.spec
     returns
-    new-from-values-requires
-    begin-requires
-    same-length
-    same-length-2
-    same-length-3
+    (λ c κs. search needs)
+    (λ c κs. search needs)
+    (λ c. search needs)
+    (λ c. search needs)
+    (λ c. search needs)
     returns-2)

@@ -18,18 +18,6 @@ fine c = sym (c .before .before .check .ensures) ∙ c .enum-told .given .1
 well : (c : tie.After-enum-told) → WellF (fu (c .before .before .before .before .before))
 well c = well-of (fu (c .before .before .before .before .before)) (fine c)
 
-check-requires : tie.Need-check-requires
-check-requires c κs = search needs
-
-enum-known-why : tie.Need-enum-known-why
-enum-known-why c = search needs
-
-enum-told : tie.Need-enum-told
-enum-told c = search needs
-
-place-requires : tie.Need-place-requires
-place-requires c κs = search needs
-
 holds-requires : tie.Need-holds-requires
 holds-requires c κs = well (c .before) .room-ind
 
@@ -47,10 +35,10 @@ pub contains-spec : {M : Type 1} → statement M
 contains-spec =
     tie.close
     (tie.spec
-    check-requires
-    enum-known-why
-    enum-told
-    place-requires
+    (λ c κs. search needs)
+    (λ c. search needs)
+    (λ c. search needs)
+    (λ c κs. search needs)
     holds-requires
     returns
     returns-2)

@@ -31,15 +31,6 @@ off-fits s = search needs
 in-n : (c : tie.Else1) → 0 < c .before .before .before .before .before .before .args .s .n
 in-n c = omega (arith, well (c .before) .within, c .if1 .left)
 
-check-requires : tie.Need-check-requires
-check-requires c κs = search needs
-
-enum-known-why : tie.Need-enum-known-why
-enum-known-why c = search needs
-
-enum-told : tie.Need-enum-told
-enum-told c = search needs
-
 returns : tie.Need-returns
 unfolding firstOf
 returns c = rw (fine (c .before), eq-eqb _ 0 (c .if1 .taken))
@@ -62,9 +53,9 @@ pub first-spec : {M : Type 1} → statement M
 first-spec =
     tie.close
     (tie.spec
-    check-requires
-    enum-known-why
-    enum-told
+    (λ c κs. search needs)
+    (λ c. search needs)
+    (λ c. search needs)
     returns
     shared-slice-read-value
     value-requires

@@ -5,15 +5,6 @@ use borrow.Author.Needs.{needs}
 use Rattle.sparse.proofs.ask.is_fixed.Statement.{statement}
 use Rattle.sparse.proofs.ask.is_fixed.Tie as tie
 
-check-requires : tie.Need-check-requires
-check-requires c κs = search needs
-
-enum-known-why : tie.Need-enum-known-why
-enum-known-why c = search needs
-
-enum-told : tie.Need-enum-told
-enum-told c = search needs
-
 returns : tie.Need-returns
 unfolding isFixedOf
 returns c = rw (sym (c .before .before .before .check .ensures) ∙ c .before .why .given .1)
@@ -23,4 +14,4 @@ unfolding isFixedOf
 returns-2 c = rw (sym (c .before .before .before .check .ensures) ∙ c .before .enum-told .given .1)
 
 pub is-fixed-spec : {M : Type 1} → statement M
-is-fixed-spec = tie.close (tie.spec check-requires enum-known-why enum-told returns returns-2)
+is-fixed-spec = tie.close (tie.spec (λ c κs. search needs) (λ c. search needs) (λ c. search needs) returns returns-2)

@@ -31,27 +31,9 @@ off-fits s = search needs
 in-n : (c : tie.Else1) → (c .before .before .before .before .before .before .args .s .size - 1) < c .before .before .before .before .before .before .args .s .n
 in-n c = omega (arith, well (c .before) .within, c .if1 .left)
 
-check-requires : tie.Need-check-requires
-check-requires c κs = search needs
-
-enum-known-why : tie.Need-enum-known-why
-enum-known-why c = search needs
-
-enum-told : tie.Need-enum-told
-enum-told c = search needs
-
 returns : tie.Need-returns
 unfolding lastOf
 returns c = rw (fine (c .before), eq-eqb _ 0 (c .if1 .taken))
-
-cast-value : tie.Need-cast-value
-cast-value c = search needs
-
-sub-value : tie.Need-sub-value
-sub-value c = search needs
-
-mul-value : tie.Need-mul-value
-mul-value c = search needs
 
 shared-slice-read-value : tie.Need-shared-slice-read-value
 shared-slice-read-value c = omega (arith, in-n (c .before), well (c .before .before) .room-val)
@@ -71,13 +53,13 @@ pub last-spec : {M : Type 1} → statement M
 last-spec =
     tie.close
     (tie.spec
-    check-requires
-    enum-known-why
-    enum-told
+    (λ c κs. search needs)
+    (λ c. search needs)
+    (λ c. search needs)
     returns
-    cast-value
-    sub-value
-    mul-value
+    (λ c. search needs)
+    (λ c. search needs)
+    (λ c. search needs)
     shared-slice-read-value
     value-requires
     returns-2

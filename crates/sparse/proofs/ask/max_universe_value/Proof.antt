@@ -26,21 +26,9 @@ well c = well-of (fu (c .before .before .before .before .before)) (fine c)
 off-fits : (s : tie.Start) → SFits w32 (s .args .s .off)
 off-fits s = search needs
 
-check-requires : tie.Need-check-requires
-check-requires c κs = search needs
-
-enum-known-why : tie.Need-enum-known-why
-enum-known-why c = search needs
-
-enum-told : tie.Need-enum-told
-enum-told c = search needs
-
 returns : tie.Need-returns
 unfolding maxUniverseOf
 returns c = rw (fine (c .before), eq-eqb _ 0 (c .if1 .taken))
-
-sub-value : tie.Need-sub-value
-sub-value c = omega arith
 
 value-requires : tie.Need-value-requires
 value-requires c κs = value-fits (c .before .before .before .before .before .before .args .s .off) (c .before .before .before .before .before .before .args .s .n) (c .before .before .before .before .before .before .args .s .n - 1) (off-fits (c .before .before .before .before .before .before)) (well (c .before) .universe) (omega (arith, c .if1 .left))
@@ -57,11 +45,11 @@ pub max-universe-value-spec : {M : Type 1} → statement M
 max-universe-value-spec =
     tie.close
     (tie.spec
-    check-requires
-    enum-known-why
-    enum-told
+    (λ c κs. search needs)
+    (λ c. search needs)
+    (λ c. search needs)
     returns
-    sub-value
+    (λ c. omega arith)
     value-requires
     returns-2
     returns-3)

@@ -13,15 +13,6 @@ use Rattle.sparse.proofs.ask.min_universe_value.Tie as tie
 off-fits : (c : tie.After-struct-told) → SFits w32 (c .before .before .before .before .before .before .args .s .off)
 off-fits c = search needs
 
-check-requires : tie.Need-check-requires
-check-requires c κs = search needs
-
-enum-known-why : tie.Need-enum-known-why
-enum-known-why c = search needs
-
-enum-told : tie.Need-enum-told
-enum-told c = search needs
-
 returns : tie.Need-returns
 unfolding minUniverseOf
 returns c = rw (sym (c .before .before .before .check .ensures) ∙ c .before .why .given .1)
@@ -32,4 +23,4 @@ returns-2 c = rw (sym (c .before .before .before .check .ensures) ∙ c .before 
 
 pub min-universe-value-spec : {M : Type 1} → statement M
 min-universe-value-spec =
-    tie.close (tie.spec check-requires enum-known-why enum-told returns returns-2)
+    tie.close (tie.spec (λ c κs. search needs) (λ c. search needs) (λ c. search needs) returns returns-2)

@@ -6,18 +6,6 @@ use borrow.Author.Needs.{needs}
 use Rattle.sparse.proofs.ask.save_state.Statement.{statement}
 use Rattle.sparse.proofs.ask.save_state.Tie as tie
 
-check-requires : tie.Need-check-requires
-check-requires c κs = search needs
-
-enum-known-why : tie.Need-enum-known-why
-enum-known-why c = search needs
-
-enum-told : tie.Need-enum-told
-enum-told c = search needs
-
-state-requires : tie.Need-state-requires
-state-requires c κs = search needs
-
 returns : tie.Need-returns
 unfolding saveOf
 returns c = rw (sym (c .before .before .before .check .ensures) ∙ c .before .why .given .1)
@@ -28,4 +16,4 @@ returns-2 c = rw (sym (c .before .before .before .check .ensures) ∙ c .before 
 
 pub save-state-spec : {M : Type 1} → statement M
 save-state-spec =
-    tie.close (tie.spec check-requires enum-known-why enum-told state-requires returns returns-2)
+    tie.close (tie.spec (λ c κs. search needs) (λ c. search needs) (λ c. search needs) (λ c κs. search needs) returns returns-2)

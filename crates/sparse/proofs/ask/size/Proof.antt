@@ -5,18 +5,6 @@ use borrow.Author.Needs.{needs}
 use Rattle.sparse.proofs.ask.size.Statement.{statement}
 use Rattle.sparse.proofs.ask.size.Tie as tie
 
-check-requires : tie.Need-check-requires
-check-requires c κs = search needs
-
-enum-known-why : tie.Need-enum-known-why
-enum-known-why c = search needs
-
-enum-told : tie.Need-enum-told
-enum-told c = search needs
-
-cast-t7 : tie.Need-cast-t7
-cast-t7 c = search needs
-
 returns : tie.Need-returns
 unfolding sizeOf
 returns c = rw (sym (c .before .before .before .check .ensures) ∙ c .before .why .given .1)
@@ -26,4 +14,4 @@ unfolding sizeOf
 returns-2 c = rw (sym (c .before .before .before .check .ensures) ∙ c .before .enum-told .given .1)
 
 pub size-spec : {M : Type 1} → statement M
-size-spec = tie.close (tie.spec check-requires enum-known-why enum-told cast-t7 returns returns-2)
+size-spec = tie.close (tie.spec (λ c κs. search needs) (λ c. search needs) (λ c. search needs) (λ c. search needs) returns returns-2)

@@ -5,15 +5,6 @@ use borrow.Author.Needs.{needs}
 use Rattle.sparse.proofs.change.remove_all.Statement.{statement}
 use Rattle.sparse.proofs.change.remove_all.Tie as tie
 
-check-requires : tie.Need-check-requires
-check-requires c κs = search needs
-
-enum-known-why : tie.Need-enum-known-why
-enum-known-why c = search needs
-
-enum-told : tie.Need-enum-told
-enum-told c = search needs
-
 returns : tie.Need-returns
 unfolding removeAllOf
 returns c = rw (sym (c .before .before .before .check .ensures) ∙ c .before .why .given .1)
@@ -23,4 +14,4 @@ unfolding removeAllOf
 returns-2 c = rw (sym (c .before .before .check .ensures) ∙ c .enum-told .given .1)
 
 pub remove-all-spec : {M : Type 1} → statement M
-remove-all-spec = tie.close (tie.spec check-requires enum-known-why enum-told returns returns-2)
+remove-all-spec = tie.close (tie.spec (λ c κs. search needs) (λ c. search needs) (λ c. search needs) returns returns-2)

@@ -19,36 +19,12 @@ fine c = sym (c .before .before .check .ensures) ∙ c .enum-told .given .1
 well : (c : tie.After-enum-told) → WellF (fu (c .before .before .before .before .before .before .before))
 well c = well-of (fu (c .before .before .before .before .before .before .before)) (fine c)
 
-check-requires : tie.Need-check-requires
-check-requires c κs = search needs
-
-enum-known-why : tie.Need-enum-known-why
-enum-known-why c = search needs
-
-enum-told : tie.Need-enum-told
-enum-told c = search needs
-
-below-requires : tie.Need-below-requires
-below-requires c κs = search needs
-
 from-cut-requires : tie.Need-from-cut-requires
 from-cut-requires c κs = well (c .before .before .before)
-
-same-length : tie.Need-same-length
-same-length c = search needs
-
-same-length-2 : tie.Need-same-length-2
-same-length-2 c = search needs
 
 returns : tie.Need-returns
 unfolding removeBelowOf
 returns c = rw (sym (c .before .before .before .check .ensures) ∙ c .before .why .given .1)
-
-same-length-3 : tie.Need-same-length-3
-same-length-3 c = search needs
-
-same-length-4 : tie.Need-same-length-4
-same-length-4 c = search needs
 
 returns-2 : tie.Need-returns-2
 unfolding removeBelowOf
@@ -58,14 +34,14 @@ pub remove-below-spec : {M : Type 1} → statement M
 remove-below-spec =
     tie.close
     (tie.spec
-    check-requires
-    enum-known-why
-    enum-told
-    below-requires
+    (λ c κs. search needs)
+    (λ c. search needs)
+    (λ c. search needs)
+    (λ c κs. search needs)
     from-cut-requires
-    same-length
-    same-length-2
+    (λ c. search needs)
+    (λ c. search needs)
     returns
-    same-length-3
-    same-length-4
+    (λ c. search needs)
+    (λ c. search needs)
     returns-2)

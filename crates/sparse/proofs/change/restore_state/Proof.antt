@@ -18,15 +18,6 @@ fine c = sym (c .before .before .check .ensures) ∙ c .enum-told .given .1
 well : (c : tie.After-enum-told) → WellF (fu (c .before .before .before .before .before))
 well c = well-of (fu (c .before .before .before .before .before)) (fine c)
 
-check-requires : tie.Need-check-requires
-check-requires c κs = search needs
-
-enum-known-why : tie.Need-enum-known-why
-enum-known-why c = search needs
-
-enum-told : tie.Need-enum-told
-enum-told c = search needs
-
 fits-requires : tie.Need-fits-requires
 fits-requires c κs = (well c .room-ind, well c .room-val)
 
@@ -45,4 +36,4 @@ returns-3 c = rw (fine (c .before .before), sym (c .before .fits2 .ensures) ∙ 
 pub restore-state-spec : {M : Type 1} → statement M
 restore-state-spec =
     tie.close
-    (tie.spec check-requires enum-known-why enum-told fits-requires returns returns-2 returns-3)
+    (tie.spec (λ c κs. search needs) (λ c. search needs) (λ c. search needs) fits-requires returns returns-2 returns-3)
