@@ -2,3 +2,4 @@
 pub mod Bits
 pub mod Board
 pub mod Worked
+pub mod Sentences

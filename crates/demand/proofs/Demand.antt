@@ -27,16 +27,19 @@ use Rattle.batch.proofs.Worded.{batch-worded}
 use Rattle.board_enter.proofs.Theorems.{add-obeys, add-any-obeys, enter-refuses}
 use Rattle.board_enter.proofs.Worded.{add-worded, add-any-worded}
 use Rattle.board_spread.specs.declared.Spread.{Spread}
+use Rattle.board_spread.specs.declared.Pair.{Pair}
+use Rattle.board_spread.specs.declared.Pair.the-variants as pair
+use Rattle.board_spread.specs.Spread.{spreadOf, pairOf}
 use Rattle.board_spread.proofs.Theorems.{spread-obeys, spread-refuses}
 use Rattle.board_spread.proofs.Worded.{spread-worded}
-use Rattle.board_ask.proofs.Theorems.{size-answers, assigned-answers, value-answers, inconsistent-answers, bounds-answers, values-answers, variables-answers, ready-answers}
+use Rattle.board_ask.proofs.Theorems.{size-answers, assigned-answers, value-answers, inconsistent-answers, bounds-answers, values-answers, variables-begin, variables-answers, ready-answers}
 use Rattle.trial.specs.Marks.{markOf, restoreOf, keepOf}
 use Rattle.trial.specs.Calls.{Step, Chain, final, calls, answers, StaysOpen, workSince, Allows, Exactly, SameMarks, Same}
 use Rattle.trial.proofs.Theorems.{mark-obeys, mark-refuses, restore-obeys, restore-refuses, keep-obeys, keep-refuses}
 use Rattle.trial.proofs.Worded.{mark-worded, restore-worded, keep-worded}
-use Rattle.trial.proofs.Chains.{chain-view, chain-answers, chain-well}
+use Rattle.trial.proofs.Chains.{chain-view, chain-answers, chain-well, chain-whole}
 use Rattle.trial.proofs.Demand as trials
-use Rattle.demand.specs.Script.{Made, close, batch, add, addValues, mark, restore, keep, resetChangedFlag, domainsChanged, propagate, ready, variables, domainSize, isAssigned, assignedValue, isInconsistent, getBounds, getDomainValues, callOf, boardOf, answerOf, runs, steps}
+use Rattle.demand.specs.Script.{Made, close, batch, add, addValues, mark, restore, keep, resetChangedFlag, domainsChanged, propagate, ready, variables, domainSize, isAssigned, assignedValue, isInconsistent, getBounds, getDomainValues, callOf, boardOf, walked, answerOf, runs, steps}
 
 -- a call that hands no board back, and that changes nothing in the rules
 stays : (c : rules.Call) (b : Board) → Whole b → wellBoard b ≡ true → rules.act c (view b) ≡ view b → {r : rules.Answer} → r ≡ rules.answer c (view b) → Obeys c b b r
@@ -58,7 +61,7 @@ made-obeys resetChangedFlag b whole w = reset-obeys b whole w
 made-obeys domainsChanged b whole w = asks rules.domainsChanged b whole w (changed-answers b w)
 made-obeys (propagate is) b whole w = spread-obeys b is whole w
 made-obeys (ready is) b whole w = stays (rules.ready is) b whole w (ready-nothing is (view b)) (ready-answers b w is)
-made-obeys variables b whole w = asks rules.variables b whole w (variables-answers b w)
+made-obeys variables b whole w = asks rules.variables b whole w (ap (walked b) (variables-begin b w) ∙ variables-answers b w)
 made-obeys (domainSize id) b whole w = asks (rules.sizeOf (id .0)) b whole w (size-answers b w id)
 made-obeys (isAssigned id) b whole w = asks (rules.assigned (id .0)) b whole w (assigned-answers b w id)
 made-obeys (assignedValue id) b whole w = asks (rules.valueOf (id .0)) b whole w (value-answers b w id)
@@ -133,7 +136,7 @@ pub run-final : (ms : List Made) (b : Board) → final b (steps ms b) ≡ runs m
 run-final [] b = refl
 run-final (m ∷ ms) b = run-final ms (boardOf m b)
 
-made-calls : (ms : List Made) (b : Board) → calls (steps ms b) ≡ map callOf ms
+pub made-calls : (ms : List Made) (b : Board) → calls (steps ms b) ≡ map callOf ms
 made-calls [] b = refl
 made-calls (m ∷ ms) b = ap (λ (l : List rules.Call). callOf m ∷ l) (made-calls ms (boardOf m b))
 
@@ -154,6 +157,9 @@ module _ (ms : List Made) (b : Board) (whole : Whole b) (w : wellBoard b ≡ tru
   -- it stays well formed
   pub run-well : wellBoard (runs ms b) ≡ true
   run-well = ap wellBoard (sym (run-final ms b)) ∙ chain-well b (steps ms b) (run-chain ms b whole w) w
+
+  pub run-whole : Whole (runs ms b)
+  run-whole = subst Whole (run-final ms b) (chain-whole b (steps ms b) (run-chain ms b whole w) whole)
 
 pub run-worded : (ms : List Made) (b : Board) → Worded b → Worded (runs ms b)
 run-worded [] b h = h
@@ -196,7 +202,13 @@ module _ (b : Board) (whole : Whole b) (accepted : markOf b .answer ≡ outcome.
 
   -- an inconsistent answer of a propagation now: no way that the domains at the mark allow and the closings in force permit has different chutes on
   -- its list and on every list in force
-  pub trial-refutes : (is : List ℕ) (y : Bool) (c : Board) → Obeys (rules.spread is) (runs ms (markOf b .board)) c (rules.outcome y false) → (w : Way) → Different (map w is) → Every (differs w) (workSince b work) → Allows b w → Every (permits w) (workSince b work) → ⊥
-  trial-refutes is y c ob =
-      trials.trial-refutes b whole accepted work chain still is y c
-      (subst (λ (d : Board). Obeys (rules.spread is) d c (rules.outcome y false)) (sym (run-final ms (markOf b .board))) ob)
+  pub trial-refutes : (is : List ℕ) (y : Bool) → spreadOf (runs ms (markOf b .board)) is .answer ≡ pair.Is y false → (w : Way) → Different (map w is) → Every (differs w) (workSince b work) → Allows b w → Every (permits w) (workSince b work) → ⊥
+  trial-refutes is y e =
+      let o = mark-obeys b whole (trials.accepted-well b accepted .0) in
+      let c = runs ms (markOf b .board) in
+      let f = run-final ms (markOf b .board) in
+      let full = run-whole ms (markOf b .board) (o .whole) (o .well) in
+      let fine = run-well ms (markOf b .board) (o .whole) (o .well) in
+      let ob = subst (λ (a : Pair). Obeys (rules.spread is) c (spreadOf c is .board) (pairOf a)) e (spread-obeys c is full fine) in
+      trials.trial-refutes b whole accepted work chain still is y (spreadOf c is .board)
+      (subst (λ (d : Board). Obeys (rules.spread is) d (spreadOf c is .board) (rules.outcome y false)) (sym f) ob)

@@ -18,7 +18,9 @@ use Rattle.batch.specs.Batch.{closingOf, countedOf, batchOf}
 use Rattle.board_enter.specs.Enter.{enterOf}
 use Rattle.board_spread.specs.Spread.{spreadOf, pairOf}
 use Rattle.board_ask.specs.Questions.{domainSizeOf, isAssignedOf, assignedValueOf, isInconsistentOf, getBoundsOf, getValuesOf}
-use Rattle.board_ask.specs.Names.{yields, cursorAt}
+use Rattle.board_ask.specs.Names.{yields, walkOf}
+use Rattle.board_ask.specs.declared.Walk.{Walk}
+use Rattle.board_ask.specs.declared.Walk.the-variants as walk
 use Rattle.board_ask.specs.Ready.{readyOf}
 use Rattle.board_ask.specs.Answers.{countOf, chuteOf, endsTold, heldBy}
 use Rattle.trial.specs.Marks.{markOf, restoreOf, keepOf}
@@ -77,6 +79,11 @@ boardOf (isInconsistent id) b = b
 boardOf (getBounds id) b = b
 boardOf (getDomainValues id) b = b
 
+-- the ids that a walk from its beginning tells, as many steps as there are destinations
+abbrev pub walked : Board → Walk → rules.Answer
+walked b (walk.Cursor c) = rules.named (yields b (b .count) c)
+walked b (walk.Refused r) = rules.denied r
+
 -- what it answers, in the words of the rules
 abbrev pub answerOf : Made → Board → rules.Answer
 answerOf (close k id v) b = toldOf (closeOf k b id v .answer)
@@ -90,7 +97,7 @@ answerOf resetChangedFlag b = outcomeOf (resetOf b .answer)
 answerOf domainsChanged b = toldOf (changedOf b)
 answerOf (propagate is) b = pairOf (spreadOf b is .answer)
 answerOf (ready is) b = toldOf (readyOf b is)
-answerOf variables b = rules.named (yields b (b .count) (cursorAt 0))
+answerOf variables b = walked b (walkOf b)
 answerOf (domainSize id) b = countOf (domainSizeOf b id)
 answerOf (isAssigned id) b = toldOf (isAssignedOf b id)
 answerOf (assignedValue id) b = chuteOf (assignedValueOf b id)

@@ -36,7 +36,7 @@ module _ (a : rules.Board) (f : List Work) (k : ℕ) where
   effect-level rules.reset l e = e
   effect-level (rules.ask q) l e = e
 
-  act-level : (c : rules.Call) (l : Log) → length (a .saved) ≡ suc (length l) + k → length (rules.act c a .saved) ≡ length (cond (rules.taken c a) (note c (a .now) (f ∷ l)) (f ∷ l)) + k
+  pub act-level : (c : rules.Call) (l : Log) → length (a .saved) ≡ suc (length l) + k → length (rules.act c a .saved) ≡ length (cond (rules.taken c a) (note c (a .now) (f ∷ l)) (f ∷ l)) + k
   act-level c l e = go (rules.taken c a)
     where
       go : (y : Bool) → length (cond y (rules.effect c a) a .saved) ≡ length (cond y (note c (a .now) (f ∷ l)) (f ∷ l)) + k
