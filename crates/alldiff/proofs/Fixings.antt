@@ -1,5 +1,5 @@
 -- The assigned places and their values: gathered place by place, and what they come to in step 1. Assumes nothing.
-use mathlib.Core.Path.{_≡_, refl, sym, ap, _∙_, subst}
+use mathlib.Core.Path.{_≡_, sym, _∙_, subst}
 use mathlib.Core.Bool.{true, false}
 use mathlib.Core.List.{List}
 use mathlib.Core.Logic.{inl, inr, ⊎-elim}
@@ -9,7 +9,7 @@ use native.Mathlib.Decide.{ℕ-discrete}
 use native.Mathlib.Omega.{arith}
 use lib.Bits.{bitAnd, bitOr}
 use lib.Count.{ones}
-use lib.Dec.{T, eqb}
+use lib.Dec.{T}
 use lib.IntN.{ℤ, pos, _+ℤ_}
 use lib.ListN.{getD}
 use borrow.Author.Tests.{eqb-true, ne-eqb, eq-eqb}
@@ -20,7 +20,7 @@ use Rattle.mask.specs.declared.Mask.{Mask}
 use Rattle.rules.specs.Sets.{has}
 use Rattle.rules.specs.Pass.{still, sweep, step1}
 use Rattle.domain.specs.Set.{valuesOf}
-use Rattle.domain.proofs.Laws.{shift-inj, in-values, values-in, values-offset}
+use Rattle.domain.proofs.Laws.{shift-inj, in-values, values-offset}
 use Rattle.masks.specs.Cells.{maskAt}
 use Rattle.sweep.specs.Listed.{domainAt, listed, assigned, Level}
 use Rattle.sweep.proofs.Turns.{assigned-at}

@@ -19,7 +19,7 @@ pub struct Found {
     pub apart: bool,
 }
 
-// Up to the first that has the same as one before.
+// Gathers them, up to the first that has the same as one before.
 pub fn fixed(ms: &Masks, n: usize) -> Found
     requires { ⌜ n ≤ 64 ⌝ }
     ensures { λ r. ⌜ (r .apart ≡ true → Fixing (now (ms .entry)) n (val (r .values))) ⌝ }
@@ -45,7 +45,7 @@ pub fn fixed(ms: &Masks, n: usize) -> Found
     }
 }
 
-// Whether the universes of the first n places start at one value. Nothing ends it early.
+// Whether the universes of the first n places start at one value. Nothing ends it early, so that several are tested at a time.
 pub fn is_level(mins: &[i32; 64], n: usize) -> bool
     requires { ⌜ n ≤ 64 ⌝ }
     ensures { λ r. ⌜ (r ≡ true → Level (getD (now (mins .entry)) 0 (pos 0)) (now (mins .entry)) n) ⌝ }

@@ -1,7 +1,7 @@
 -- `alldiff::step_one` meets its contract: striking all values at once is step 1 where it empties no domain, and one by one it is
 -- step 1 anyway. Assumes nothing.
 use borrow.Author.Needs.{needs}
-use mathlib.Core.Path.{_≡_, sym, ap, _∙_}
+use mathlib.Core.Path.{sym, ap, _∙_}
 use lib.IntN.{pos}
 use lib.ListN.{getD}
 use borrow.Author.Tests.{eqb-true, not-false}
