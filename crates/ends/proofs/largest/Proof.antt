@@ -30,21 +30,6 @@ shared-slice-copy-out-best c = c .pre
 loop-holds : tie.Need-loop-holds Inv-loop μ-loop
 loop-holds c = first-start before (c .before .args .values .now) (c .before .pre) (search needs)
 
-mul-greater : tie.Need-mul-greater Inv-loop μ-loop
-mul-greater c = search needs
-
-shared-slice-copy-out-greater : tie.Need-shared-slice-copy-out-greater Inv-loop μ-loop
-shared-slice-copy-out-greater c = search needs
-
-greater-requires : tie.Need-greater-requires Inv-loop μ-loop
-greater-requires c κs = search needs
-
-add-i : tie.Need-add-i Inv-loop μ-loop
-add-i c = search needs
-
-loop-less : tie.Need-loop-less Inv-loop μ-loop
-loop-less c = omega arith
-
 loop-again : tie.Need-loop-again Inv-loop μ-loop
 loop-again c =
     let n = c .before .before in
@@ -64,10 +49,10 @@ largest-spec =
     μ-loop
     shared-slice-copy-out-best
     loop-holds
-    mul-greater
-    shared-slice-copy-out-greater
-    greater-requires
-    add-i
-    loop-less
+    (λ c. search needs)
+    (λ c. search needs)
+    (λ c κs. search needs)
+    (λ c. search needs)
+    (λ c. omega arith)
     loop-again
     returns)

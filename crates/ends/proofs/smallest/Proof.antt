@@ -30,21 +30,6 @@ shared-slice-copy-out-best c = c .pre
 loop-holds : tie.Need-loop-holds Inv-loop μ-loop
 loop-holds c = first-start before (c .before .args .values .now) (c .before .pre) (search needs)
 
-mul-lesser : tie.Need-mul-lesser Inv-loop μ-loop
-mul-lesser c = search needs
-
-shared-slice-copy-out-lesser : tie.Need-shared-slice-copy-out-lesser Inv-loop μ-loop
-shared-slice-copy-out-lesser c = search needs
-
-lesser-requires : tie.Need-lesser-requires Inv-loop μ-loop
-lesser-requires c κs = search needs
-
-add-i : tie.Need-add-i Inv-loop μ-loop
-add-i c = search needs
-
-loop-less : tie.Need-loop-less Inv-loop μ-loop
-loop-less c = omega arith
-
 loop-again : tie.Need-loop-again Inv-loop μ-loop
 loop-again c =
     let n = c .before .before in
@@ -64,10 +49,10 @@ smallest-spec =
     μ-loop
     shared-slice-copy-out-best
     loop-holds
-    mul-lesser
-    shared-slice-copy-out-lesser
-    lesser-requires
-    add-i
-    loop-less
+    (λ c. search needs)
+    (λ c. search needs)
+    (λ c κs. search needs)
+    (λ c. search needs)
+    (λ c. omega arith)
     loop-again
     returns)

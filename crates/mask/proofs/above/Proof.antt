@@ -4,11 +4,8 @@ use lib.Pow.{shr-shr}
 use Rattle.mask.proofs.above.Statement.{statement}
 use Rattle.mask.proofs.above.Tie as tie
 
-shr-result : tie.Need-shr-result
-shr-result c = search needs
-
 returns : tie.Need-returns
 returns c = shr-shr (c .args .w) (c .args .j) 1
 
 pub above-spec : {M : Type 1} → statement M
-above-spec = tie.close (tie.spec shr-result returns)
+above-spec = tie.close (tie.spec (λ c. search needs) returns)

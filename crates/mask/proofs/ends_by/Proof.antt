@@ -24,9 +24,6 @@ low c b e = sym (c .is-between .ensures) ∙ e
 high : (c : tie.After-is-between2) (b : Bool) → c .is-between2 .result ≡ b → isBetween 64 128 (at (c .before .before .before)) ≡ b
 high c b e = sym (c .is-between2 .ensures) ∙ e
 
-is-between-requires : tie.Need-is-between-requires
-is-between-requires c κs = search needs
-
 cast-above : tie.Need-cast-above
 cast-above c =
     let u = between-up 0 64 (at (c .before .before)) (low (c .before) true (c .if1 .taken)) in
@@ -41,9 +38,6 @@ returns c =
     ap (λ (w : ℕ). eqb (bitOr w (s .args .m .hi)) 0) (c .before .above .ensures)
     ∙ ends-low (s .args .m) (search needs) (at s) (low (c .before .before .before) true (c .before .before .if1 .taken))
     ∙ ap (endsBy (s .args .m)) (toZ-ofZ (s .fits .k))
-
-is-between-requires-2 : tie.Need-is-between-requires-2
-is-between-requires-2 c κs = search needs
 
 cast-above-2 : tie.Need-cast-above-2
 cast-above-2 c =
@@ -75,11 +69,11 @@ pub ends-by-spec : {M : Type 1} → statement M
 ends-by-spec =
     tie.close
     (tie.spec
-    is-between-requires
+    (λ c κs. search needs)
     cast-above
     above-requires
     returns
-    is-between-requires-2
+    (λ c κs. search needs)
     cast-above-2
     sub-above
     above-requires-2

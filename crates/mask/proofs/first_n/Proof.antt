@@ -9,12 +9,6 @@ use Rattle.mask.specs.Words.{valueOf, cons-eq, last-eq, first-words}
 use Rattle.mask.proofs.first_n.Statement.{statement}
 use Rattle.mask.proofs.first_n.Tie as tie
 
-part-requires : tie.Need-part-requires
-part-requires c κs = search needs
-
-part-requires-2 : tie.Need-part-requires-2
-part-requires-2 c κs = search needs
-
 returns : tie.Need-returns
 unfolding val
 returns c =
@@ -23,4 +17,4 @@ returns c =
     ∙ first-words words k 0 (omega arith) ∙ ap (λ (x : ℕ). 2 ^ x - 1) (sub-zero k)
 
 pub first-n-spec : {M : Type 1} → statement M
-first-n-spec = tie.close (tie.spec part-requires part-requires-2 returns)
+first-n-spec = tie.close (tie.spec (λ c κs. search needs) (λ c κs. search needs) returns)

@@ -26,9 +26,6 @@ up-to m k p h =
     let e : k - 1 + 1 ≡ k = omega arith in
     ap (λ (b : Bool). b && ltb (val m) (2 ^ (k - 1 + 1))) (up-offset (k - 1) (omega arith)) ∙ ap (λ (x : ℕ). ltb (val m) (2 ^ x)) e
 
-is-none-requires : tie.Need-is-none-requires
-is-none-requires c κs = search needs
-
 returns : tie.Need-returns
 returns c =
     let n = val (c .before .before .args .m) in
@@ -42,15 +39,6 @@ returns-2 c =
     let past : offsets ≤ a .k = omega arith in
     sym (lt-ltb (val (a .m)) (2 ^ a .k) (lt-of-lt-of-le (val-lt (a .m) (search needs)) (pow-mono past)))
 
-sub-ends-by : tie.Need-sub-ends-by
-sub-ends-by c = search needs
-
-cast-ends-by : tie.Need-cast-ends-by
-cast-ends-by c = search needs
-
-ends-by-requires : tie.Need-ends-by-requires
-ends-by-requires c κs = search needs
-
 returns-3 : tie.Need-returns-3
 returns-3 c =
     let a = c .before .before .before .args in
@@ -59,4 +47,4 @@ returns-3 c =
 
 pub fits-spec : {M : Type 1} → statement M
 fits-spec =
-    tie.close (tie.spec is-none-requires returns returns-2 sub-ends-by cast-ends-by ends-by-requires returns-3)
+    tie.close (tie.spec (λ c κs. search needs) returns returns-2 (λ c. search needs) (λ c. search needs) (λ c κs. search needs) returns-3)

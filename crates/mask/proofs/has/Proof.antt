@@ -10,12 +10,6 @@ use Rattle.mask.specs.Words.{has-word}
 use Rattle.mask.proofs.has.Statement.{statement}
 use Rattle.mask.proofs.has.Tie as tie
 
-word-requires : tie.Need-word-requires
-word-requires c κs = search needs
-
-shr-result : tie.Need-shr-result
-shr-result c = search needs
-
 returns : tie.Need-returns
 unfolding val
 returns c =
@@ -24,4 +18,4 @@ returns c =
     ∙ ap (λ (x : ℕ). eqb x 1) (has-word (wordsOf (a .m)) (a .k / 64) (a .k % 64) (a .k) (omega arith) (omega arith) (search needs))
 
 pub has-spec : {M : Type 1} → statement M
-has-spec = tie.close (tie.spec word-requires shr-result returns)
+has-spec = tie.close (tie.spec (λ c κs. search needs) (λ c. search needs) returns)

@@ -22,23 +22,11 @@ law m i w h f e =
 at : (c : tie.After-word) → (leadingZeros 64 (c .word .result) < 64) × Highest (val (c .before .before .args .m)) (c .before .last-word .result * 64 + (63 - leadingZeros 64 (c .word .result)))
 at c = law (c .before .before .args .m) (c .before .last-word .result) (c .word .result) (search needs) (c .before .last-word .ensures) (c .word .ensures)
 
-last-word-requires : tie.Need-last-word-requires
-last-word-requires c κs = search needs
-
-mul-result : tie.Need-mul-result
-mul-result c = search needs
-
-word-requires : tie.Need-word-requires
-word-requires c κs = search needs
-
 cast-result : tie.Need-cast-result
 cast-result c = omega (arith, leading-le 64 (c .word .result))
 
 sub-result : tie.Need-sub-result
 sub-result c = omega (arith, at c .0)
-
-add-result : tie.Need-add-result
-add-result c = search needs
 
 returns : tie.Need-returns
 returns c = (at c .1, search needs)
@@ -47,10 +35,10 @@ pub highest-spec : {M : Type 1} → statement M
 highest-spec =
     tie.close
     (tie.spec
-    last-word-requires
-    mul-result
-    word-requires
+    (λ c κs. search needs)
+    (λ c. search needs)
+    (λ c κs. search needs)
     cast-result
     sub-result
-    add-result
+    (λ c. search needs)
     returns)

@@ -12,9 +12,6 @@ use Rattle.mask.specs.Val.{val}
 use Rattle.mask.proofs.is_one.Statement.{statement}
 use Rattle.mask.proofs.is_one.Tie as tie
 
-is-none-requires : tie.Need-is-none-requires
-is-none-requires c κs = search needs
-
 returns : tie.Need-returns
 returns c =
     let n = val (c .before .before .args .m) in
@@ -26,9 +23,6 @@ rest-requires c κs =
     let n = val (c .before .before .args .m) in
     pos-of-ne n (eqb-false n 0 (sym (c .before .is-none .ensures) ∙ c .if1 .left))
 
-is-none-requires-2 : tie.Need-is-none-requires-2
-is-none-requires-2 c κs = search needs
-
 returns-2 : tie.Need-returns-2
 returns-2 c =
     let s = c .before .before in
@@ -38,4 +32,4 @@ returns-2 c =
 
 pub is-one-spec : {M : Type 1} → statement M
 is-one-spec =
-    tie.close (tie.spec is-none-requires returns rest-requires is-none-requires-2 returns-2)
+    tie.close (tie.spec (λ c κs. search needs) returns rest-requires (λ c κs. search needs) returns-2)

@@ -19,15 +19,6 @@ law m i w h f e =
     subst (λ (x : ℕ). (trailingZeros 64 x < 64) × Lowest (val m) (i * 64 + trailingZeros 64 x)) (sym e)
     (t .0, lowest-at (wordsOf m) i (trailingZeros 64 (getD (wordsOf m) i 0)) h (t .0) (f .below) (f .place) (t .1))
 
-first-word-requires : tie.Need-first-word-requires
-first-word-requires c κs = search needs
-
-mul-result : tie.Need-mul-result
-mul-result c = search needs
-
-word-requires : tie.Need-word-requires
-word-requires c κs = search needs
-
 cast-result : tie.Need-cast-result
 cast-result c = omega (arith, trailing-le 64 (c .word .result))
 
@@ -42,4 +33,4 @@ returns c =
 pub lowest-spec : {M : Type 1} → statement M
 lowest-spec =
     tie.close
-    (tie.spec first-word-requires mul-result word-requires cast-result add-result returns)
+    (tie.spec (λ c κs. search needs) (λ c. search needs) (λ c κs. search needs) cast-result add-result returns)

@@ -6,16 +6,10 @@ use lib.Bits.{bitOr, or-zero-l}
 use Rattle.mask.proofs.only.Statement.{statement}
 use Rattle.mask.proofs.only.Tie as tie
 
-empty-requires : tie.Need-empty-requires
-empty-requires c κs = search needs
-
-with-requires : tie.Need-with-requires
-with-requires c κs = search needs
-
 returns : tie.Need-returns
 returns c =
     let k : ℕ = c .before .before .args .k in
     c .with .ensures ∙ ap (λ (x : ℕ). bitOr x (2 ^ k)) (c .before .empty .ensures) ∙ or-zero-l (2 ^ k)
 
 pub only-spec : {M : Type 1} → statement M
-only-spec = tie.close (tie.spec empty-requires with-requires returns)
+only-spec = tie.close (tie.spec (λ c κs. search needs) (λ c κs. search needs) returns)

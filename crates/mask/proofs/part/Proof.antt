@@ -14,20 +14,11 @@ returns c =
     let e : 0 ≡ min (a .k - a .from) 64 = omega arith in
     ap (λ (x : ℕ). 2 ^ x - 1) e
 
-add-if2 : tie.Need-add-if2
-add-if2 c = search needs
-
 returns-2 : tie.Need-returns-2
 returns-2 c =
     let a = c .before .before .args in
     let e : 64 ≡ min (a .k - a .from) 64 = omega arith in
     ap (λ (x : ℕ). 2 ^ x - 1) e
-
-sub-d : tie.Need-sub-d
-sub-d c = search needs
-
-shl-result : tie.Need-shl-result
-shl-result c = search needs
 
 sub-result : tie.Need-sub-result
 sub-result c =
@@ -41,4 +32,4 @@ returns-3 c =
     ap (λ (x : ℕ). x - 1) (shl-one (a .k - a .from) (omega arith)) ∙ ap (λ (x : ℕ). 2 ^ x - 1) e
 
 pub part-spec : {M : Type 1} → statement M
-part-spec = tie.close (tie.spec returns add-if2 returns-2 sub-d shl-result sub-result returns-3)
+part-spec = tie.close (tie.spec returns (λ c. search needs) returns-2 (λ c. search needs) (λ c. search needs) sub-result returns-3)

@@ -10,18 +10,6 @@ use Rattle.mask.specs.Words.{valueOf, rest-words}
 use Rattle.mask.proofs.rest.Statement.{statement}
 use Rattle.mask.proofs.rest.Tie as tie
 
-first-word-requires : tie.Need-first-word-requires
-first-word-requires c κs = search needs
-
-word-requires : tie.Need-word-requires
-word-requires c κs = search needs
-
-sub-set-word : tie.Need-sub-set-word
-sub-set-word c = search needs
-
-set-word-requires : tie.Need-set-word-requires
-set-word-requires c κs = search needs
-
 returns : tie.Need-returns
 unfolding val
 returns c k low =
@@ -34,4 +22,4 @@ returns c k low =
 
 pub rest-spec : {M : Type 1} → statement M
 rest-spec =
-    tie.close (tie.spec first-word-requires word-requires sub-set-word set-word-requires returns)
+    tie.close (tie.spec (λ c κs. search needs) (λ c κs. search needs) (λ c. search needs) (λ c κs. search needs) returns)

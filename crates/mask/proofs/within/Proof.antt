@@ -8,16 +8,10 @@ use Rattle.mask.specs.Sets.{minus-none-test}
 use Rattle.mask.proofs.within.Statement.{statement}
 use Rattle.mask.proofs.within.Tie as tie
 
-minus-requires : tie.Need-minus-requires
-minus-requires c κs = search needs
-
-is-none-requires : tie.Need-is-none-requires
-is-none-requires c κs = search needs
-
 returns : tie.Need-returns
 returns c =
     let a = c .before .before .args in
     c .is-none .ensures ∙ ap (λ (x : ℕ). eqb x 0) (c .before .minus .ensures) ∙ minus-none-test (val (a .m)) (val (a .n))
 
 pub within-spec : {M : Type 1} → statement M
-within-spec = tie.close (tie.spec minus-requires is-none-requires returns)
+within-spec = tie.close (tie.spec (λ c κs. search needs) (λ c κs. search needs) returns)

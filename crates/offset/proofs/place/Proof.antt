@@ -6,16 +6,10 @@ use Rattle.offset.specs.Wide.{gap-is}
 use Rattle.offset.proofs.place.Statement.{statement}
 use Rattle.offset.proofs.place.Tie as tie
 
-gap-requires : tie.Need-gap-requires
-gap-requires c κs = search needs
-
-clip-to-requires : tie.Need-clip-to-requires
-clip-to-requires c κs = search needs
-
 returns : tie.Need-returns
 returns c =
     let s = c .before .before in
     c .clip-to .ensures ∙ ap (placeOf (s .args .n)) (gap-is (c .before .gap .ensures) (s .fits .v) (s .fits .min))
 
 pub place-spec : {M : Type 1} → statement M
-place-spec = tie.close (tie.spec gap-requires clip-to-requires returns)
+place-spec = tie.close (tie.spec (λ c κs. search needs) (λ c κs. search needs) returns)

@@ -18,9 +18,6 @@ w c = toZ w64 (ofZ w64 (toZ w64 (ofZ w64 (c .gap .result)) +ℤ pos 1))
 read : (c : tie.After-gap) → w c ≡ (c .before .args .max -ℤ c .before .args .min) +ℤ pos 1
 read c = more-is (c .gap .ensures) (c .before .fits .max) (c .before .fits .min) {k = 1} (lit≤ tt)
 
-gap-requires : tie.Need-gap-requires
-gap-requires c κs = search needs
-
 add-w : tie.Need-add-w
 add-w c = more-fits (c .gap .ensures) (c .before .fits .max) (c .before .fits .min) (lit≤ tt)
 
@@ -38,4 +35,4 @@ unfolding spanOf
 returns-2 c = natural-up (w (c .before)) (c .if1 .left) ∙ ap natural (read (c .before))
 
 pub span-spec : {M : Type 1} → statement M
-span-spec = tie.close (tie.spec gap-requires add-w returns cast-result returns-2)
+span-spec = tie.close (tie.spec (λ c κs. search needs) add-w returns cast-result returns-2)

@@ -7,14 +7,8 @@ use Rattle.offset.specs.Wide.{more-fits, more-is}
 use Rattle.offset.proofs.upto.Statement.{statement}
 use Rattle.offset.proofs.upto.Tie as tie
 
-gap-requires : tie.Need-gap-requires
-gap-requires c κs = search needs
-
 add-clip-to : tie.Need-add-clip-to
 add-clip-to c = more-fits (c .gap .ensures) (c .before .fits .t) (c .before .fits .min) (lit≤ tt)
-
-clip-to-requires : tie.Need-clip-to-requires
-clip-to-requires c κs = search needs
 
 returns : tie.Need-returns
 returns c =
@@ -22,4 +16,4 @@ returns c =
     c .clip-to .ensures ∙ ap (cutOf (s .args .n)) (more-is (c .before .gap .ensures) (s .fits .t) (s .fits .min) {k = 1} (lit≤ tt))
 
 pub upto-spec : {M : Type 1} → statement M
-upto-spec = tie.close (tie.spec gap-requires add-clip-to clip-to-requires returns)
+upto-spec = tie.close (tie.spec (λ c κs. search needs) add-clip-to (λ c κs. search needs) returns)

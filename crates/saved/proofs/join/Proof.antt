@@ -34,18 +34,6 @@ turn false q r = refl
 loop-holds : tie.Need-loop-holds Inv-loop μ-loop
 loop-holds c = (search needs, λ k. and-true (ltb (val (c .args .x)) (2 ^ k)))
 
-at-requires : tie.Need-at-requires Inv-loop μ-loop
-at-requires c κs = search needs
-
-or-requires : tie.Need-or-requires Inv-loop μ-loop
-or-requires c κs = search needs
-
-add-m : tie.Need-add-m Inv-loop μ-loop
-add-m c = search needs
-
-loop-less : tie.Need-loop-less Inv-loop μ-loop
-loop-less c = search needs
-
 loop-again : tie.Need-loop-again Inv-loop μ-loop
 loop-again c =
     let s = c .before .before .before in
@@ -75,9 +63,9 @@ join-spec =
     Inv-loop
     μ-loop
     loop-holds
-    at-requires
-    or-requires
-    add-m
-    loop-less
+    (λ c κs. search needs)
+    (λ c κs. search needs)
+    (λ c. search needs)
+    (λ c. search needs)
     loop-again
     returns)

@@ -5,9 +5,6 @@ use borrow.Author.Needs.{needs}
 use Rattle.domain.proofs.ask.contains.Statement.{statement}
 use Rattle.domain.proofs.ask.contains.Tie as tie
 
-is-well-requires : tie.Need-is-well-requires
-is-well-requires c κs = search needs
-
 returns : tie.Need-returns
 unfolding containsOf
 returns c = rw (fails (c .before .is-well .ensures) (c .if1 .taken))
@@ -20,4 +17,4 @@ unfolding containsOf
 returns-2 c = rw (passes (c .before .before .is-well .ensures) (c .before .if1 .left), c .holds .ensures)
 
 pub contains-spec : {M : Type 1} → statement M
-contains-spec = tie.close (tie.spec is-well-requires returns holds-requires returns-2)
+contains-spec = tie.close (tie.spec (λ c κs. search needs) returns holds-requires returns-2)

@@ -13,15 +13,9 @@ use borrow.Author.Needs.{needs}
 use Rattle.domain.proofs.ask.fixed_value.Statement.{statement}
 use Rattle.domain.proofs.ask.fixed_value.Tie as tie
 
-is-well-requires : tie.Need-is-well-requires
-is-well-requires c κs = search needs
-
 returns : tie.Need-returns
 unfolding fixedValueOf
 returns c = rw (fails (c .before .is-well .ensures) (c .if1 .taken))
-
-is-one-requires : tie.Need-is-one-requires
-is-one-requires c κs = search needs
 
 returns-2 : tie.Need-returns-2
 unfolding fixedValueOf
@@ -46,4 +40,4 @@ returns-3 c =
 pub fixed-value-spec : {M : Type 1} → statement M
 fixed-value-spec =
     tie.close
-    (tie.spec is-well-requires returns is-one-requires returns-2 smallest-requires returns-3)
+    (tie.spec (λ c κs. search needs) returns (λ c κs. search needs) returns-2 smallest-requires returns-3)

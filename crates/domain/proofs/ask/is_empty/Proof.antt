@@ -6,19 +6,13 @@ use borrow.Author.Needs.{needs}
 use Rattle.domain.proofs.ask.is_empty.Statement.{statement}
 use Rattle.domain.proofs.ask.is_empty.Tie as tie
 
-is-well-requires : tie.Need-is-well-requires
-is-well-requires c κs = search needs
-
 returns : tie.Need-returns
 unfolding isEmptyOf
 returns c = rw (fails (c .before .is-well .ensures) (c .if1 .taken))
-
-is-none-requires : tie.Need-is-none-requires
-is-none-requires c κs = search needs
 
 returns-2 : tie.Need-returns-2
 unfolding isEmptyOf
 returns-2 c = let d = c .before .before .before .args .d in rw (passes (c .before .before .is-well .ensures) (c .before .if1 .left), none-test (d .min) (d .mask), c .is-none .ensures)
 
 pub is-empty-spec : {M : Type 1} → statement M
-is-empty-spec = tie.close (tie.spec is-well-requires returns is-none-requires returns-2)
+is-empty-spec = tie.close (tie.spec (λ c κs. search needs) returns (λ c κs. search needs) returns-2)

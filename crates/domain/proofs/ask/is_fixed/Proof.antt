@@ -6,19 +6,13 @@ use borrow.Author.Needs.{needs}
 use Rattle.domain.proofs.ask.is_fixed.Statement.{statement}
 use Rattle.domain.proofs.ask.is_fixed.Tie as tie
 
-is-well-requires : tie.Need-is-well-requires
-is-well-requires c κs = search needs
-
 returns : tie.Need-returns
 unfolding isFixedOf
 returns c = rw (fails (c .before .is-well .ensures) (c .if1 .taken))
-
-is-one-requires : tie.Need-is-one-requires
-is-one-requires c κs = search needs
 
 returns-2 : tie.Need-returns-2
 unfolding isFixedOf
 returns-2 c = let d = c .before .before .before .args .d in rw (passes (c .before .before .is-well .ensures) (c .before .if1 .left), size-ones (d .min) (d .mask), c .is-one .ensures)
 
 pub is-fixed-spec : {M : Type 1} → statement M
-is-fixed-spec = tie.close (tie.spec is-well-requires returns is-one-requires returns-2)
+is-fixed-spec = tie.close (tie.spec (λ c κs. search needs) returns (λ c κs. search needs) returns-2)

@@ -10,9 +10,6 @@ use borrow.Author.Needs.{needs}
 use Rattle.domain.proofs.ask.is_invalid.Statement.{statement}
 use Rattle.domain.proofs.ask.is_invalid.Tie as tie
 
-is-well-requires : tie.Need-is-well-requires
-is-well-requires c κs = search needs
-
 returns : tie.Need-returns
 unfolding isInvalidOf
 returns c = rw (fails (c .before .is-well .ensures) (c .if1 .taken))
@@ -26,4 +23,4 @@ returns-2 c =
     rw (passes (c .before .before .before .is-well .ensures) (c .before .before .if1 .left)) (λ i. told.Is (ltZ (read (d .max) f i) (read (d .min) g i)))
 
 pub is-invalid-spec : {M : Type 1} → statement M
-is-invalid-spec = tie.close (tie.spec is-well-requires returns returns-2)
+is-invalid-spec = tie.close (tie.spec (λ c κs. search needs) returns returns-2)

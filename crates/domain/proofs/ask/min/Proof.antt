@@ -10,15 +10,9 @@ use borrow.Author.Needs.{needs}
 use Rattle.domain.proofs.ask.min.Statement.{statement}
 use Rattle.domain.proofs.ask.min.Tie as tie
 
-is-well-requires : tie.Need-is-well-requires
-is-well-requires c κs = search needs
-
 returns : tie.Need-returns
 unfolding minOf
 returns c = rw (fails (c .before .is-well .ensures) (c .if1 .taken))
-
-is-none-requires : tie.Need-is-none-requires
-is-none-requires c κs = search needs
 
 returns-2 : tie.Need-returns-2
 unfolding minOf
@@ -37,4 +31,4 @@ returns-3 c = rw (passes (c .before .before .before .before .is-well .ensures) (
 pub min-spec : {M : Type 1} → statement M
 min-spec =
     tie.close
-    (tie.spec is-well-requires returns is-none-requires returns-2 smallest-requires returns-3)
+    (tie.spec (λ c κs. search needs) returns (λ c κs. search needs) returns-2 smallest-requires returns-3)

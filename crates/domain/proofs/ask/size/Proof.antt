@@ -6,19 +6,13 @@ use borrow.Author.Needs.{needs}
 use Rattle.domain.proofs.ask.size.Statement.{statement}
 use Rattle.domain.proofs.ask.size.Tie as tie
 
-is-well-requires : tie.Need-is-well-requires
-is-well-requires c κs = search needs
-
 returns : tie.Need-returns
 unfolding sizeOf
 returns c = rw (fails (c .before .is-well .ensures) (c .if1 .taken))
-
-count-requires : tie.Need-count-requires
-count-requires c κs = search needs
 
 returns-2 : tie.Need-returns-2
 unfolding sizeOf
 returns-2 c = let d = c .before .before .before .args .d in rw (passes (c .before .before .is-well .ensures) (c .before .if1 .left), size-ones (d .min) (d .mask), c .count .ensures .0)
 
 pub size-spec : {M : Type 1} → statement M
-size-spec = tie.close (tie.spec is-well-requires returns count-requires returns-2)
+size-spec = tie.close (tie.spec (λ c κs. search needs) returns (λ c κs. search needs) returns-2)

@@ -5,9 +5,6 @@ use borrow.Author.Needs.{needs}
 use Rattle.domain.proofs.change.remove.Statement.{statement}
 use Rattle.domain.proofs.change.remove.Tie as tie
 
-is-well-requires : tie.Need-is-well-requires
-is-well-requires c κs = search needs
-
 returns : tie.Need-returns
 unfolding removeOf
 returns c = rw (fails (c .before .is-well .ensures) (c .if1 .taken))
@@ -24,4 +21,4 @@ returns-2 c = rw (passes (c .before .before .before .is-well .ensures) (c .befor
 
 pub remove-spec : {M : Type 1} → statement M
 remove-spec =
-    tie.close (tie.spec is-well-requires returns without-requires holds-requires returns-2)
+    tie.close (tie.spec (λ c κs. search needs) returns without-requires holds-requires returns-2)

@@ -5,19 +5,13 @@ use borrow.Author.Needs.{needs}
 use Rattle.domain.proofs.change.remove_all.Statement.{statement}
 use Rattle.domain.proofs.change.remove_all.Tie as tie
 
-is-well-requires : tie.Need-is-well-requires
-is-well-requires c κs = search needs
-
 returns : tie.Need-returns
 unfolding removeAllOf
 returns c = rw (fails (c .before .is-well .ensures) (c .if1 .taken))
-
-emptied-requires : tie.Need-emptied-requires
-emptied-requires c κs = search needs
 
 returns-2 : tie.Need-returns-2
 unfolding removeAllOf
 returns-2 c = rw (passes (c .before .before .is-well .ensures) (c .before .if1 .left), c .emptied .ensures)
 
 pub remove-all-spec : {M : Type 1} → statement M
-remove-all-spec = tie.close (tie.spec is-well-requires returns emptied-requires returns-2)
+remove-all-spec = tie.close (tie.spec (λ c κs. search needs) returns (λ c κs. search needs) returns-2)

@@ -5,9 +5,6 @@ use borrow.Author.Needs.{needs}
 use Rattle.domain.proofs.change.remove_all_but.Statement.{statement}
 use Rattle.domain.proofs.change.remove_all_but.Tie as tie
 
-is-well-requires : tie.Need-is-well-requires
-is-well-requires c κs = search needs
-
 returns : tie.Need-returns
 unfolding closeOf
 returns c = rw (fails (c .before .is-well .ensures) (c .if1 .taken))
@@ -20,4 +17,4 @@ unfolding closeOf
 returns-2 c = rw (passes (c .before .before .is-well .ensures) (c .before .if1 .left), c .only .ensures)
 
 pub remove-all-but-spec : {M : Type 1} → statement M
-remove-all-but-spec = tie.close (tie.spec is-well-requires returns only-requires returns-2)
+remove-all-but-spec = tie.close (tie.spec (λ c κs. search needs) returns only-requires returns-2)

@@ -12,12 +12,6 @@ use borrow.Author.Needs.{needs}
 use Rattle.domain.proofs.inner.admits.Statement.{statement}
 use Rattle.domain.proofs.inner.admits.Tie as tie
 
-place-requires : tie.Need-place-requires
-place-requires c κs = search needs
-
-width-requires : tie.Need-width-requires
-width-requires c κs = search needs
-
 returns : tie.Need-returns
 returns c = let s = c .before .before .before in rw (universe-outside (s .args .d) (s .args .v) (omega (arith, c .before .before .place .ensures, c .before .width .ensures)))
 
@@ -33,4 +27,4 @@ returns-2 c =
     rw (universe-at (a .d) (a .v) l, held-at (a .d) (s .pre) (a .v) l) (ap not (c .has .ensures ∙ ap (λ (k : ℕ). eqb (bit (val (a .d .mask)) k) 1) p))
 
 pub admits-spec : {M : Type 1} → statement M
-admits-spec = tie.close (tie.spec place-requires width-requires returns has-requires returns-2)
+admits-spec = tie.close (tie.spec (λ c κs. search needs) (λ c κs. search needs) returns has-requires returns-2)

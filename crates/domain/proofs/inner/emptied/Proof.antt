@@ -7,14 +7,8 @@ use borrow.Author.Needs.{needs}
 use Rattle.domain.proofs.inner.emptied.Statement.{statement}
 use Rattle.domain.proofs.inner.emptied.Tie as tie
 
-empty-requires : tie.Need-empty-requires
-empty-requires c κs = search needs
-
-with-mask-requires : tie.Need-with-mask-requires
-with-mask-requires c κs = search needs
-
 returns : tie.Need-returns
 returns c = let d = c .before .before .args .d in masked d (c .with-mask .result) (c .before .empty .result) [] (c .with-mask .ensures) (search needs) (c .before .empty .ensures ∙ none-bits (d .min))
 
 pub emptied-spec : {M : Type 1} → statement M
-emptied-spec = tie.close (tie.spec empty-requires with-mask-requires returns)
+emptied-spec = tie.close (tie.spec (λ c κs. search needs) (λ c κs. search needs) returns)

@@ -30,20 +30,8 @@ cut c =
     let g : SFits w32 (d .min) = search needs in
     c .below .ensures ∙ (λ i. cutOf (c .before .before .before .width .ensures i) (read (s .args .v .0) f i -ℤ read (d .min) g i))
 
-width-requires : tie.Need-width-requires
-width-requires c κs = search needs
-
-below-requires : tie.Need-below-requires
-below-requires c κs = search needs
-
 first-n-requires : tie.Need-first-n-requires
 first-n-requires c κs = let s = c .before .before .before .before in let d = s .args .d in omega (arith, well-width d (s .pre), cut c, cut-le (width d) ((s .args .v .0 -ℤ d .min)))
-
-minus-requires : tie.Need-minus-requires
-minus-requires c κs = search needs
-
-with-mask-requires : tie.Need-with-mask-requires
-with-mask-requires c κs = search needs
 
 returns : tie.Need-returns
 returns c =
@@ -58,9 +46,9 @@ pub from-spec : {M : Type 1} → statement M
 from-spec =
     tie.close
     (tie.spec
-    width-requires
-    below-requires
+    (λ c κs. search needs)
+    (λ c κs. search needs)
     first-n-requires
-    minus-requires
-    with-mask-requires
+    (λ c κs. search needs)
+    (λ c κs. search needs)
     returns)

@@ -11,12 +11,6 @@ use borrow.Author.Needs.{needs}
 use Rattle.domain.proofs.inner.holds.Statement.{statement}
 use Rattle.domain.proofs.inner.holds.Tie as tie
 
-place-requires : tie.Need-place-requires
-place-requires c κs = search needs
-
-width-requires : tie.Need-width-requires
-width-requires c κs = search needs
-
 returns : tie.Need-returns
 returns c = let s = c .before .before .before in sym (outside (s .args .d) (s .pre) (s .args .v) (omega (arith, c .before .before .place .ensures, c .before .width .ensures)))
 
@@ -31,4 +25,4 @@ returns-2 c =
     c .has .ensures ∙ ap (λ (k : ℕ). eqb (bit (val (a .d .mask)) k) 1) p ∙ sym (held-at (a .d) (s .pre) (a .v) (omega (arith, p, c .before .before .width .ensures)))
 
 pub holds-spec : {M : Type 1} → statement M
-holds-spec = tie.close (tie.spec place-requires width-requires returns has-requires returns-2)
+holds-spec = tie.close (tie.spec (λ c κs. search needs) (λ c κs. search needs) returns has-requires returns-2)

@@ -13,12 +13,6 @@ use borrow.Author.Needs.{needs}
 use Rattle.domain.proofs.inner.including.Statement.{statement}
 use Rattle.domain.proofs.inner.including.Tie as tie
 
-place-requires : tie.Need-place-requires
-place-requires c κs = search needs
-
-width-requires : tie.Need-width-requires
-width-requires c κs = search needs
-
 returns : tie.Need-returns
 returns c =
     let s = c .before .before .before in
@@ -29,9 +23,6 @@ returns c =
 
 with-requires : tie.Need-with-requires
 with-requires c κs = let s = c .before .before .before in omega (arith, well-width (s .args .d) (s .pre), c .before .width .ensures)
-
-with-mask-requires : tie.Need-with-mask-requires
-with-mask-requires c κs = search needs
 
 returns-2 : tie.Need-returns-2
 returns-2 c =
@@ -46,4 +37,4 @@ returns-2 c =
 pub including-spec : {M : Type 1} → statement M
 including-spec =
     tie.close
-    (tie.spec place-requires width-requires returns with-requires with-mask-requires returns-2)
+    (tie.spec (λ c κs. search needs) (λ c κs. search needs) returns with-requires (λ c κs. search needs) returns-2)

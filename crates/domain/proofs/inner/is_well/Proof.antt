@@ -28,12 +28,6 @@ read c = sym (gap-is {a = domain c .max} {b = domain c .min} (c .gap .ensures) (
 found : (c : tie.After-ends-by) (b : Bool) → c .ends-by .result ≡ b → endsBy (domain (c .before) .mask) (last (c .before)) ≡ b
 found c b e = sym (c .ends-by .ensures) ∙ e
 
-gap-requires : tie.Need-gap-requires
-gap-requires c κs = search needs
-
-ends-by-requires : tie.Need-ends-by-requires
-ends-by-requires c κs = search needs
-
 returns : tie.Need-returns
 returns c = let s = c .before .before in ends-well (domain s) (last s) (read s) (found (c .before) true (c .if1 .taken))
 
@@ -41,12 +35,6 @@ returns-2 : tie.Need-returns-2
 returns-2 c =
     let s = c .before .before .before in
     sym (found (c .before .before) false (c .before .if1 .left)) ∙ up-well (domain s) (last s) (read s) (c .if2 .taken)
-
-is-pair-requires : tie.Need-is-pair-requires
-is-pair-requires c κs = search needs
-
-is-none-requires : tie.Need-is-none-requires
-is-none-requires c κs = search needs
 
 -- where there is no universe, by what is found of the bounds
 bounds : (c : tie.After-is-pair) (b : Bool) → c .is-pair .result ≡ b → b && eqb (val (domain (c .before .before .before .before) .mask)) 0 ≡ well (domain (c .before .before .before .before))
@@ -64,11 +52,11 @@ pub is-well-spec : {M : Type 1} → statement M
 is-well-spec =
     tie.close
     (tie.spec
-    gap-requires
-    ends-by-requires
+    (λ c κs. search needs)
+    (λ c κs. search needs)
     returns
     returns-2
-    is-pair-requires
-    is-none-requires
+    (λ c κs. search needs)
+    (λ c κs. search needs)
     returns-3
     returns-4)

@@ -14,18 +14,6 @@ use borrow.Author.Needs.{needs}
 use Rattle.domain.proofs.inner.only.Statement.{statement}
 use Rattle.domain.proofs.inner.only.Tie as tie
 
-place-requires : tie.Need-place-requires
-place-requires c κs = search needs
-
-width-requires : tie.Need-width-requires
-width-requires c κs = search needs
-
-empty-requires : tie.Need-empty-requires
-empty-requires c κs = search needs
-
-with-mask-requires : tie.Need-with-mask-requires
-with-mask-requires c κs = search needs
-
 returns : tie.Need-returns
 returns c =
     let s = c .before .before .before .before .before in
@@ -37,12 +25,6 @@ returns c =
 
 only-requires : tie.Need-only-requires
 only-requires c κs = let s = c .before .before .before in omega (arith, well-width (s .args .d) (s .pre), c .before .width .ensures)
-
-and-requires : tie.Need-and-requires
-and-requires c κs = search needs
-
-with-mask-requires-2 : tie.Need-with-mask-requires-2
-with-mask-requires-2 c κs = search needs
 
 returns-2 : tie.Need-returns-2
 returns-2 c =
@@ -58,12 +40,12 @@ pub only-spec : {M : Type 1} → statement M
 only-spec =
     tie.close
     (tie.spec
-    place-requires
-    width-requires
-    empty-requires
-    with-mask-requires
+    (λ c κs. search needs)
+    (λ c κs. search needs)
+    (λ c κs. search needs)
+    (λ c κs. search needs)
     returns
     only-requires
-    and-requires
-    with-mask-requires-2
+    (λ c κs. search needs)
+    (λ c κs. search needs)
     returns-2)

@@ -11,9 +11,6 @@ use borrow.Author.Needs.{needs}
 use Rattle.domain.proofs.inner.place.Statement.{statement}
 use Rattle.domain.proofs.inner.place.Tie as tie
 
-width-requires : tie.Need-width-requires
-width-requires c κs = search needs
-
 place-requires : tie.Need-place-requires
 place-requires c κs = let s = c .before .before .before in omega (arith, well-width (s .args .d) (s .pre), c .before .before .width .ensures)
 
@@ -25,4 +22,4 @@ returns c =
     c .place .ensures ∙ (λ i. placeOf (c .before .before .before .width .ensures i) (read (a .v .0) f i -ℤ read (a .d .min) g i))
 
 pub place-spec : {M : Type 1} → statement M
-place-spec = tie.close (tie.spec width-requires place-requires returns)
+place-spec = tie.close (tie.spec (λ c κs. search needs) place-requires returns)

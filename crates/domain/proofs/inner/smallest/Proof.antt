@@ -7,9 +7,6 @@ use borrow.Author.Needs.{needs}
 use Rattle.domain.proofs.inner.smallest.Statement.{statement}
 use Rattle.domain.proofs.inner.smallest.Tie as tie
 
-lowest-requires : tie.Need-lowest-requires
-lowest-requires c κs = search needs
-
 value-requires : tie.Need-value-requires
 value-requires c κs = well-in (c .before .args .d) (c .before .pre .0) (c .lowest .result) (c .lowest .ensures .0 .set)
 
@@ -17,4 +14,4 @@ returns : tie.Need-returns
 returns c = let d = c .before .before .args .d in ap at (c .value .ensures) ∙ sym (first-value (d .min) (d .mask) (c .before .lowest .result) (c .before .lowest .ensures .0))
 
 pub smallest-spec : {M : Type 1} → statement M
-smallest-spec = tie.close (tie.spec lowest-requires value-requires returns)
+smallest-spec = tie.close (tie.spec (λ c κs. search needs) value-requires returns)

@@ -30,20 +30,8 @@ cut c =
     let g : SFits w32 (d .min) = search needs in
     c .upto .ensures ∙ (λ i. cutOf (c .before .before .before .width .ensures i) ((read (s .args .v .0) f i -ℤ read (d .min) g i) +ℤ pos 1))
 
-width-requires : tie.Need-width-requires
-width-requires c κs = search needs
-
-upto-requires : tie.Need-upto-requires
-upto-requires c κs = search needs
-
 first-n-requires : tie.Need-first-n-requires
 first-n-requires c κs = let s = c .before .before .before .before in let d = s .args .d in omega (arith, well-width d (s .pre), cut c, cut-le (width d) (((s .args .v .0 -ℤ d .min) +ℤ pos 1)))
-
-and-requires : tie.Need-and-requires
-and-requires c κs = search needs
-
-with-mask-requires : tie.Need-with-mask-requires
-with-mask-requires c κs = search needs
 
 returns : tie.Need-returns
 returns c =
@@ -58,9 +46,9 @@ pub upto-spec : {M : Type 1} → statement M
 upto-spec =
     tie.close
     (tie.spec
-    width-requires
-    upto-requires
+    (λ c κs. search needs)
+    (λ c κs. search needs)
     first-n-requires
-    and-requires
-    with-mask-requires
+    (λ c κs. search needs)
+    (λ c κs. search needs)
     returns)

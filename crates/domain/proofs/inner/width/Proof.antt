@@ -8,9 +8,6 @@ use Rattle.domain.proofs.Signed.{read}
 use Rattle.domain.proofs.inner.width.Statement.{statement}
 use Rattle.domain.proofs.inner.width.Tie as tie
 
-span-requires : tie.Need-span-requires
-span-requires c κs = search needs
-
 returns : tie.Need-returns
 returns c =
     let d = c .before .before .before .args .d in
@@ -19,4 +16,4 @@ returns c =
     c .span .ensures ∙ (λ i. spanOf (read (d .min) f i) (read (d .max) g i))
 
 pub width-spec : {M : Type 1} → statement M
-width-spec = tie.close (tie.spec span-requires returns)
+width-spec = tie.close (tie.spec (λ c κs. search needs) returns)

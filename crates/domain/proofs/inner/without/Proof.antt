@@ -12,12 +12,6 @@ use borrow.Author.Needs.{needs}
 use Rattle.domain.proofs.inner.without.Statement.{statement}
 use Rattle.domain.proofs.inner.without.Tie as tie
 
-place-requires : tie.Need-place-requires
-place-requires c κs = search needs
-
-width-requires : tie.Need-width-requires
-width-requires c κs = search needs
-
 returns : tie.Need-returns
 returns c =
     let s = c .before .before .before in
@@ -27,9 +21,6 @@ returns c =
 
 without-requires : tie.Need-without-requires
 without-requires c κs = let s = c .before .before .before in omega (arith, well-width (s .args .d) (s .pre), c .before .width .ensures)
-
-with-mask-requires : tie.Need-with-mask-requires
-with-mask-requires c κs = search needs
 
 returns-2 : tie.Need-returns-2
 returns-2 c =
@@ -44,4 +35,4 @@ returns-2 c =
 pub without-spec : {M : Type 1} → statement M
 without-spec =
     tie.close
-    (tie.spec place-requires width-requires returns without-requires with-mask-requires returns-2)
+    (tie.spec (λ c κs. search needs) (λ c κs. search needs) returns without-requires (λ c κs. search needs) returns-2)

@@ -12,9 +12,6 @@ use borrow.Author.Needs.{needs}
 use Rattle.domain.proofs.make.bare.Statement.{statement}
 use Rattle.domain.proofs.make.bare.Tie as tie
 
-empty-requires : tie.Need-empty-requires
-empty-requires c κs = search needs
-
 returns : tie.Need-returns
 returns c =
     let a = c .before .args in
@@ -22,4 +19,4 @@ returns c =
     (read (a .min) (search needs)) (read (a .max) (search needs)) (c .empty .ensures ∙ none-bits (a .min))
 
 pub bare-spec : {M : Type 1} → statement M
-bare-spec = tie.close (tie.spec empty-requires returns)
+bare-spec = tie.close (tie.spec (λ c κs. search needs) returns)

@@ -24,9 +24,6 @@ span-is c =
     let g : SFits w32 (a .max) = search needs in
     c .span .ensures ∙ (λ i. spanOf (read (a .min) f i) (read (a .max) g i))
 
-span-requires : tie.Need-span-requires
-span-requires c κs = search needs
-
 first-n-requires : tie.Need-first-n-requires
 first-n-requires c κs = let a = c .before .args in omega (arith, span-is c, leb-true (spanOf (a .min) (a .max)) offsets (c .before .pre))
 
@@ -39,4 +36,4 @@ returns c =
     (c .first-n .ensures ∙ ap (λ (n : ℕ). 2 ^ n - 1) (span-is (c .before)) ∙ full-bits (a .min) (spanOf (a .min) (a .max)))
 
 pub full-spec : {M : Type 1} → statement M
-full-spec = tie.close (tie.spec span-requires first-n-requires returns)
+full-spec = tie.close (tie.spec (λ c κs. search needs) first-n-requires returns)

@@ -9,13 +9,10 @@ use borrow.Author.Needs.{needs}
 use Rattle.domain.proofs.make.is_narrow.Statement.{statement}
 use Rattle.domain.proofs.make.is_narrow.Tie as tie
 
-span-requires : tie.Need-span-requires
-span-requires c κs = search needs
-
 returns : tie.Need-returns
 returns c =
     let a = c .before .args in
     ap (λ (n : ℕ). leb n offsets) (c .span .ensures ∙ (λ i. spanOf (read (a .min) (search needs) i) (read (a .max) (search needs) i)))
 
 pub is-narrow-spec : {M : Type 1} → statement M
-is-narrow-spec = tie.close (tie.spec span-requires returns)
+is-narrow-spec = tie.close (tie.spec (λ c κs. search needs) returns)

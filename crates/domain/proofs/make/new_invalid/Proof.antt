@@ -9,11 +9,8 @@ use borrow.Author.Needs.{needs}
 use Rattle.domain.proofs.make.new_invalid.Statement.{statement}
 use Rattle.domain.proofs.make.new_invalid.Tie as tie
 
-empty-requires : tie.Need-empty-requires
-empty-requires c κs = search needs
-
 returns : tie.Need-returns
 returns c = is-holding invalid (record { mask = c .empty .result; min = pos 1; max = pos 0 }) [] (search needs) refl refl (c .empty .ensures ∙ none-bits (pos 1))
 
 pub new-invalid-spec : {M : Type 1} → statement M
-new-invalid-spec = tie.close (tie.spec empty-requires returns)
+new-invalid-spec = tie.close (tie.spec (λ c κs. search needs) returns)

@@ -5,18 +5,12 @@ use Rattle.domain.proofs.Signed.{exchanged, in-order}
 use Rattle.domain.proofs.make.new_of.Statement.{statement}
 use Rattle.domain.proofs.make.new_of.Tie as tie
 
-between-requires : tie.Need-between-requires
-between-requires c κs = search needs
-
 returns : tie.Need-returns
 unfolding newOf
 returns c =
     let s = c .before .before .before in
     let a = s .before .before .before .before .before .args in
     exchanged (betweenOf (a .all)) (a .a) (a .b) (search needs) (search needs) (c .between .result) (s .if1 .taken) (c .between .ensures)
-
-between-requires-2 : tie.Need-between-requires-2
-between-requires-2 c κs = search needs
 
 returns-2 : tie.Need-returns-2
 unfolding newOf
@@ -26,4 +20,4 @@ returns-2 c =
     in-order (betweenOf (a .all)) (a .a) (a .b) (search needs) (search needs) (c .between2 .result) (s .if1 .left) (c .between2 .ensures)
 
 pub new-of-spec : {M : Type 1} → statement M
-new-of-spec = tie.close (tie.spec between-requires returns between-requires-2 returns-2)
+new-of-spec = tie.close (tie.spec (λ c κs. search needs) returns (λ c κs. search needs) returns-2)
