@@ -1,5 +1,7 @@
 // The pass of 01, "Board and pass", over the listed domains as they are gathered: of each place the smallest value of its
 // universe, and its mask.
+//
+// spread; first::fixed, is_level, one_by_one: the parts of step 1
 ghost use mathlib.Core.Path.{_≡_};
 ghost use mathlib.Core.Bool.{false};
 ghost use Prim.Native.Nat.{ℕ, _+_, _^_, _<_, _≤_};

@@ -5,15 +5,10 @@ use Prim.Native.Nat.{ℕ, suc}
 use lib.Dec.{eqb, ltb}
 use lib.IntN.{ℤ}
 use lib.ListN.{length}
-use Rattle.closing.specs.declared.Kind.{Kind}
-use Rattle.closing.specs.declared.Kind.the-variants as kind
+use Rattle.closing.specs.Kinds.{kindFor}
 use Rattle.closing.specs.declared.Closing.{Closing}
 use Rattle.batch_runs.specs.declared.Form.{Form}
 use Rattle.batch_runs.specs.declared.Form.the-variants as form
-
--- the four kinds, as a sheet numbers them
-abbrev pub kindAt : ℕ → Kind
-kindAt n = cond (eqb n 1) kind.Remove (cond (eqb n 2) kind.Assign (cond (eqb n 3) kind.Below kind.Above))
 
 abbrev pub isKind : ℕ → Bool
 isKind n = ltb 0 n && ltb n 5
@@ -28,7 +23,7 @@ unfoldable pub formOf : List ℕ → ℕ → ℕ → Form
 formOf kinds ids values = cond (eqb ids (length kinds) && eqb values (length kinds)) (cond (ltb 256 (length kinds)) form.Long (kindsForm 0 kinds)) form.Uneven
 
 abbrev pub closingAt : ℕ → ℕ → ℤ → Closing
-closingAt k i v = record { kind = kindAt k; id = record { 0 = i }; value = record { 0 = v } }
+closingAt k i v = record { kind = kindFor k; id = record { 0 = i }; value = record { 0 = v } }
 
 abbrev pub closingsOf : List ℕ → List ℕ → List ℤ → List Closing
 closingsOf [] is vs = []

@@ -5,9 +5,8 @@
 ghost use mathlib.Core.Path.{_≡_};
 ghost use Prim.Native.Nat.{_≤_};
 ghost use lib.ListN.{length, take};
-ghost use Rattle.batch_runs.specs.Runs.{kindAt, formOf, closingAt, closingsOf};
+ghost use Rattle.batch_runs.specs.Runs.{formOf, closingAt, closingsOf};
 use closing::Closing;
-use closing::Kind;
 use rules::Value;
 use rules::Variable;
 
@@ -17,21 +16,6 @@ pub enum Form {
     Uneven,
     Long,
     Bad(usize),
-}
-
-fn kind_of(n: u32) -> Kind
-    ensures { λ r. ⌜ r ≡ kindAt n ⌝ }
-{
-    if n == 1 {
-        return Kind::Remove;
-    }
-    if n == 2 {
-        return Kind::Assign;
-    }
-    if n == 3 {
-        return Kind::Below;
-    }
-    Kind::Above
 }
 
 // The runs are of one length and at most 256 long, and every kind is one of the four: else the place of the first that isn't.
@@ -66,7 +50,7 @@ fn closing_at(kind: u32, id: u32, value: i32) -> Closing
     ensures { λ r. ⌜ r ≡ closingAt kind id value ⌝ }
 {
     Closing {
-        kind: kind_of(kind),
+        kind: closing::kind_for(kind),
         id: Variable(id),
         value: Value(value),
     }

@@ -1,5 +1,7 @@
 // Where the ids of a list stand on a board: what a list must pass that is propagated, or asked whether it is ready. For
 // callers that know the board to be well formed.
+//
+// find, find_from: one id; seats: a list; ids_of: the ids to be lent
 ghost use mathlib.Core.Path.{_≡_};
 ghost use mathlib.Core.Bool.{true};
 ghost use Prim.Native.Nat.{_≤_};

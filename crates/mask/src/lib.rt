@@ -1,5 +1,7 @@
 // A set of offsets, kept in words of 64 bits. No contract of a `pub fn` says how many words there are: each speaks of `val`,
 // the number whose bits are the members, and of `offsets`, how many offsets there is room for.
+//
+// empty, only, first_n; and, or, minus; with, without, rest; is_none, is_one, has, within, same, fits, ends_by; count, lowest, highest
 ghost use mathlib.Core.Path.{_≡_};
 ghost use Prim.Native.Nat.{ℕ, _+_, _-_, _/_, _^_, _<_, _≤_, min};
 ghost use mathlib.Core.Bool.{_&&_};

@@ -1,4 +1,6 @@
 // 64 masks as one array of words, so that all of them can be lent at once. Only this crate and `mask` know the words.
+//
+// none, at, put
 ghost use mathlib.Core.Path.{_≡_};
 ghost use Prim.Native.Nat.{_<_};
 ghost use Rattle.masks.specs.Cells.{Room, maskAt, putAt};

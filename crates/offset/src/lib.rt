@@ -1,5 +1,7 @@
 // Where a chute stands in a universe of i32 values, counted from the universe's smallest. The differences are taken in i64,
 // so that none wraps, also from one end of i32 to the other.
+//
+// gap, span; place, below, upto; value
 ghost use mathlib.Core.Path.{_≡_};
 ghost use lib.IntN.{pos, _+ℤ_, _-ℤ_};
 ghost use mir.Syntax.{w32};

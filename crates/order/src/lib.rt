@@ -1,5 +1,7 @@
 // Two orderings of the numbers below n that are inverse to one another, over cells that the caller lends: `val` holds the numbers in their
 // order, and `ind` says where each stands. Cells past n are never written.
+//
+// fill, exchange, is_inverse
 ghost use mathlib.Core.Path.{_≡_};
 ghost use Prim.Native.Nat.{_<_, _≤_};
 ghost use lib.ListN.{length, getD};

@@ -1,5 +1,7 @@
 // The masks that the open marks of a board saved, one for each row, in one run of words. Nothing above knows how many
 // words a mask has: each contract speaks of `savedAt`, the mask that a mark saved for a row.
+//
+// at, put, join
 ghost use mathlib.Core.Path.{_≡_};
 ghost use mathlib.Core.Bool.{_&&_};
 ghost use Prim.Native.Nat.{ℕ, _^_, _≤_, _<_};

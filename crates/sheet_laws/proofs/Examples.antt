@@ -11,7 +11,8 @@ use Rattle.sheet_form.specs.declared.Destination.{Destination}
 use Rattle.sheet_number.specs.declared.Fault.the-variants.{IllWritten, OutOfRange, Separator, Ended, Trailing, TooLong}
 use Rattle.sheet_number.specs.Number.{got, fault, isDigit, inRun, run, digits, positive, written, numberAt, byteAt, faultAt}
 use Rattle.sheet_number.specs.Reader.{each, field, natural, value}
-use Rattle.sheet_sections.specs.Sections.{destination, kindFor, closing, count, list, section}
+use Rattle.closing.specs.Kinds.{kindFor}
+use Rattle.sheet_sections.specs.Sections.{destination, closing, count, list, section}
 use Rattle.sheet.specs.Sheet.{end, sheet, readSheet}
 
 abbrev row : ℕ → ℤ → ℤ → Destination

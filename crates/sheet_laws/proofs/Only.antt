@@ -21,7 +21,8 @@ use Rattle.sheet_number.specs.declared.Fault.{Fault}
 use Rattle.sheet_number.specs.Number.{Got, got, fault, numberAt, byteAt, judged, faultAt, run, runEnd, inRun, written}
 use Rattle.sheet_number.specs.Reader.{Reader, after, natural, value, field, each}
 use Rattle.sheet_number.proofs.Readers.{no-fault, field-parts, natural-got, value-fits, natural-bound}
-use Rattle.sheet_sections.specs.Sections.{id, destination, kindFor, closing, gap, count, listed, list, section}
+use Rattle.closing.specs.Kinds.{kindFor}
+use Rattle.sheet_sections.specs.Sections.{id, destination, closing, gap, count, listed, list, section}
 use Rattle.sheet_sections.proofs.Arrays.{each-length}
 use Rattle.sheet.specs.Sheet.{end, sheet, readSheet}
 use Rattle.sheet.specs.Write.{writeField, writeId, numberFor, writeDestination, writeClosing, writeEach, writeList, writeSection, writeSheet, GoodDestination, GoodClosing, Good}

@@ -22,7 +22,8 @@ use Rattle.sheet_form.specs.Sheet.{Sheet, All}
 use Rattle.sheet_number.specs.Number.{Got, got, numberAt, byteAt, run, inRun, isDigit}
 use Rattle.sheet_number.specs.Reader.{Reader, after, _>>=_, pure, natural, value, field, each}
 use Rattle.sheet_number.proofs.Readers.{byte-there, natural-value, field-got, field-parts}
-use Rattle.sheet_sections.specs.Sections.{id, destination, kindFor, closing, gap, count, listed, list, section}
+use Rattle.closing.specs.Kinds.{kindFor}
+use Rattle.sheet_sections.specs.Sections.{id, destination, closing, gap, count, listed, list, section}
 use Rattle.sheet_sections.proofs.OneRun.{count-got}
 use Rattle.sheet.specs.Sheet.{readSheet}
 use Rattle.sheet.specs.Write.{writeField, writeId, numberFor, writeDestination, writeClosing, writeEach, writeList, writeSection, writeSheet, GoodDestination, GoodClosing, Good}

@@ -1,10 +1,7 @@
 -- The lines and sections of 01's wave sheet, as what is read from bytes. Assumes nothing.
 use Prim.Native.Nat.{ℕ, zero, suc}
 use mathlib.Core.List.{List}
-use mathlib.Core.Bool.{cond}
-use lib.Dec.{eqb}
-use Rattle.closing.specs.declared.Kind.{Kind}
-use Rattle.closing.specs.declared.Kind.the-variants.{Remove, Assign, Below, Above}
+use Rattle.closing.specs.Kinds.{kindFor}
 use Rattle.closing.specs.declared.Closing.{Closing}
 use Rattle.sheet_form.specs.declared.Destination.{Destination}
 use Rattle.sheet_number.specs.Reader.{Reader, _>>=_, pure, natural, value, byte, field, each, times}
@@ -26,10 +23,6 @@ destination = do
   lo ← field value space
   hi ← field value newline
   pure (record { id = record { 0 = i }; min = record { 0 = lo }; max = record { 0 = hi } })
-
--- 1 remove, 2 assign, 3 below, 4 above
-unfoldable pub kindFor : ℕ → Kind
-kindFor n = cond (eqb n 1) Remove (cond (eqb n 2) Assign (cond (eqb n 3) Below Above))
 
 -- `kind id value`
 unfoldable pub closing : Reader Closing

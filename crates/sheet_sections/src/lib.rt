@@ -7,7 +7,7 @@ ghost use Prim.Native.Nat.{_+_, _≤_};
 ghost use Rattle.sheet_number.specs.Number.{fault};
 ghost use Rattle.sheet_number.specs.Reader.{times};
 ghost use Rattle.sheet_number.specs.Told.{toldNatural};
-ghost use Rattle.sheet_sections.specs.Sections.{destination, closing, kindFor, section, gap, count, list};
+ghost use Rattle.sheet_sections.specs.Sections.{destination, closing, section, gap, count, list};
 ghost use Rattle.sheet_sections.specs.Rows.{toldDestination, toldClosing, destinationsOf, closingsOf, storedIds, listsOf};
 use closing::Closing;
 use closing::Kind;
@@ -116,20 +116,6 @@ enum ClosingLine {
     Bad(Fault, usize),
 }
 
-fn kind_for(n: u32) -> Kind
-    ensures { λ r. ⌜ r ≡ kindFor n ⌝ }
-{
-    if n == 1 {
-        Kind::Remove
-    } else if n == 2 {
-        Kind::Assign
-    } else if n == 3 {
-        Kind::Below
-    } else {
-        Kind::Above
-    }
-}
-
 fn read_closing(s: &[u8], at: usize) -> ClosingLine
     ensures { λ r. ⌜ toldClosing r ≡ closing (now (s .entry)) at ⌝ }
 {
@@ -140,7 +126,7 @@ fn read_closing(s: &[u8], at: usize) -> ClosingLine
             Natural::Is(id, f) => match sheet_number::value_field(s, f, 10) {
                 Signed::Bad(k, p) => ClosingLine::Bad(k, p),
                 Signed::Is(value, g) => {
-                    let kind = kind_for(n);
+                    let kind = closing::kind_for(n);
                     ClosingLine::Is(
                         Closing {
                             kind,

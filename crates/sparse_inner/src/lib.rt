@@ -1,5 +1,7 @@
 // The sparse set behind its calls: its state, by value, over two orderings that the caller lends, and the work of the calls on a set that is
 // known to be well formed. `check` is the test that makes it known; the calls that make it for their callers are in `sparse` and beside it.
+//
+// check, check_both; place, below, upto, value; holds, fits, state; drop_at, add_at, only_at, from_cut, under_cut
 ghost use mathlib.Core.Path.{_≡_};
 ghost use Prim.Native.Nat.{ℕ, _+_, _-_, _<_, _≤_};
 ghost use lib.IntN.{pos, _+ℤ_, _-ℤ_};

@@ -2,6 +2,8 @@
 //
 // A listed domain is the mask at its place, over a universe that starts at the place's smallest value. The universes may
 // differ in any way: a value is carried from one to another as an i32.
+//
+// strike_others, strike_outside, strike_unassigned
 ghost use mathlib.Core.Path.{_≡_};
 ghost use mathlib.Core.List.{List, [], _∷_};
 ghost use Prim.Native.Nat.{_<_, _≤_};

@@ -1,8 +1,8 @@
--- `sheet_sections::kind_for` meets its contract: each arm is a case of `kindFor`. Assumes nothing.
+-- `closing::kind_for` meets its contract: each arm is a case of `kindFor`. Assumes nothing.
 use borrow.Author.Tests.{eq-eqb, ne-eqb}
-use Rattle.sheet_sections.specs.Sections.{kindFor}
-use Rattle.sheet_sections.proofs.kind_for.Statement.{statement}
-use Rattle.sheet_sections.proofs.kind_for.Tie as tie
+use Rattle.closing.specs.Kinds.{kindFor}
+use Rattle.closing.proofs.kind_for.Statement.{statement}
+use Rattle.closing.proofs.kind_for.Tie as tie
 
 returns : tie.Need-returns
 unfolding kindFor
