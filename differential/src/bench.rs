@@ -130,7 +130,7 @@ impl Bench {
         self.prices();
         println!();
         println!("differential: {} of {} limits hold; the sides {}", self.held, self.limits, if self.same { "answered the same" } else { "ANSWERED DIFFERENTLY" });
-        self.same
+        self.same && self.held == self.limits
     }
 }
 
