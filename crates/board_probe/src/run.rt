@@ -10,6 +10,7 @@ use board_probe_parts::lent;
 use board_probe_parts::raw;
 use board_probe_parts::run as parts;
 use board_probe_parts::show;
+use probe_parts::behind;
 use probe_parts::record;
 use probe_parts::record::Record;
 use probe_parts::regs;
@@ -63,15 +64,18 @@ fn shown(r: Record, b: Board, out: &mut [u8], to: usize) -> usize
     requires { ⌜ (r .b < 8) × (to + 10328 ≤ length (now out)) ⌝ }
     ensures { λ n. ⌜ (n ≤ 10328) × (length (now (out .exit)) ≡ length (now (out .entry))) ⌝ }
 {
+    let next = to + 64;
     if r.op == 8 {
-        show::dump(b, out, to + 64);
+        show::dump(b, out, next);
         reply::write(8, reply::none(), show::left(b), out, to);
         return MOST;
     }
-    let lent = lent::run(r, b, out, to + 64);
+    let lent = lent::run(r, b);
     let answer = lent.answer;
+    let cells = lent.behind;
     reply::write(r.op, reply::counted(answer), show::left(b), out, to);
-    64 + lent.bytes
+    behind::write(cells, out, next);
+    64 + cells.many
 }
 
 fn shows(op: u64) -> bool {

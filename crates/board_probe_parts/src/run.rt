@@ -1,16 +1,13 @@
 // The run of ids that lists are parts of.
 ghost use Prim.Native.Nat.{_≤_};
 use probe_parts::record::Record;
+use probe_parts::wire::half;
 
 // How many ids the run has.
 pub const IDS: usize = 224;
 
 pub fn clear(ids: &mut [u32; 224]) {
     *ids = [0u32; 224];
-}
-
-fn half(w: u64) -> u32 {
-    (w % 4294967296) as u32
 }
 
 // Four ids from place n on; those past the run's end are passed over.

@@ -71,26 +71,29 @@ pub fn left(b: Board) -> Register {
     }
 }
 
-fn put_row(row: Row, out: &mut [u8], at: usize)
+// A row's mask, with its bounds and id where `whole`. Answers where the next row goes.
+fn put_row(row: Row, whole: bool, out: &mut [u8], at: usize) -> usize
     requires { ⌜ at + 32 ≤ length (now out) ⌝ }
-    ensures { λ _. ⌜ length (now (out .exit)) ≡ length (now (out .entry)) ⌝ }
+    ensures { λ next. ⌜ (next ≤ at + 32) × (length (now (out .exit)) ≡ length (now (out .entry))) ⌝ }
 {
     let d = row.domain;
-    wire::put_words(
-        &[d.mask.lo, d.mask.hi, regs::bounds(d), row.id.0 as u64],
-        out,
-        at,
-    );
+    wire::put_words(&[d.mask.lo, d.mask.hi], out, at);
+    if whole {
+        wire::put_words(&[regs::bounds(d), row.id.0 as u64], out, at + 16);
+        return at + 32;
+    }
+    at + 16
 }
 
-fn put_rows(rows: [Row; 64], out: &mut [u8], at: usize)
+pub fn put_rows(rows: [Row; 64], whole: bool, out: &mut [u8], at: usize)
     requires { ⌜ at + 2048 ≤ length (now out) ⌝ }
     ensures { λ _. ⌜ length (now (out .exit)) ≡ length (now (out .entry)) ⌝ }
 {
+    let mut to = at;
     let mut i = 0;
     while i < 64 {
         let row = rows[i];
-        put_row(row, out, at + 32 * i);
+        to = put_row(row, whole, out, to);
         i += 1;
     }
 }
@@ -102,7 +105,7 @@ pub fn dump(b: Board, out: &mut [u8], at: usize)
 {
     let rows = b.rows;
     let saved = b.saved;
-    put_rows(rows, out, at);
+    put_rows(rows, true, out, at);
     wire::put_words(&saved, out, at + 2048);
     wire::put_words(&[b.count as u64, b.marks as u64, flag(b)], out, at + 10240);
 }

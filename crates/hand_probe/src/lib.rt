@@ -9,7 +9,8 @@ ghost use lib.ListN.{length};
 use batch::Batched;
 use board::Board;
 use board::Closed;
-use board::Row;
+use board_probe_parts::show::left;
+use board_probe_parts::show::put_rows;
 use closing::Closing;
 use closing::Kind;
 use domain::BitDomain;
@@ -27,16 +28,10 @@ use rules::Variable;
 // The bytes of a frame, of which all are read.
 const FRAME: usize = 8192;
 
-// How many removals a frame has, how many rows a board, and the bytes before a batch's closings.
+// How many removals a frame has, and the bytes before a batch's closings.
 const REMOVALS: usize = 200;
 
-const ROWS: usize = 64;
-
 const CLOSINGS: usize = 1040;
-
-fn low(w: u64) -> u32 {
-    (w % 4294967296) as u32
-}
 
 // ---- removals: four words in, four out
 
@@ -162,7 +157,7 @@ fn closing(script: &[u8], at: usize) -> Closing
     let value = wire::signed(wire::word(script, at + 8));
     Closing {
         kind: kind(head),
-        id: Variable(low(head / 4294967296)),
+        id: Variable(wire::half(head / 4294967296)),
         value: Value(value),
     }
 }
@@ -193,7 +188,7 @@ fn run(script: &[u8]) -> [Closing; 256]
 fn registered(script: &[u8], at: usize, b: Board) -> Board
     requires { ⌜ at + 16 ≤ length (now script) ⌝ }
 {
-    let id = low(wire::word(script, at));
+    let id = wire::half(wire::word(script, at));
     let ends = wire::word(script, at + 8);
     let first = Value(wire::signed(ends));
     let last = Value(wire::signed(ends / 4294967296));
@@ -213,44 +208,24 @@ fn board(script: &[u8], count: usize) -> Board
     b
 }
 
-fn put_mask(row: Row, out: &mut [u8], to: usize)
-    requires { ⌜ to + 16 ≤ length (now out) ⌝ }
-    ensures { λ _. ⌜ length (now (out .exit)) ≡ length (now (out .entry)) ⌝ }
-{
-    let m = row.domain.mask;
-    wire::put_words(&[m.lo, m.hi], out, to);
-}
-
-fn put_masks(rows: [Row; 64], out: &mut [u8], to: usize)
-    requires { ⌜ to + 1024 ≤ length (now out) ⌝ }
-    ensures { λ _. ⌜ length (now (out .exit)) ≡ length (now (out .entry)) ⌝ }
-{
-    let mut i = 0;
-    while i < ROWS {
-        let row = rows[i];
-        put_mask(row, out, to + 16 * i);
-        i += 1;
-    }
-}
-
 // An answer as a number, the flag, and the masks of all rows; then one number over all of the board, its count and its marks.
 fn show(answer: u64, b: Board, out: &mut [u8], to: usize)
-    requires { ⌜ to + 1064 ≤ length (now out) ⌝ }
+    requires { ⌜ to + 2064 ≤ length (now out) ⌝ }
     ensures { λ _. ⌜ length (now (out .exit)) ≡ length (now (out .entry)) ⌝ }
 {
     let rows = b.rows;
-    let whole = board_probe_parts::show::left(b);
+    let whole = left(b);
     let mut flag = 0;
     if b.changed {
         flag = 1;
     }
     wire::put_words(&[answer, flag], out, to);
-    put_masks(rows, out, to + 16);
+    put_rows(rows, false, out, to + 16);
     wire::put_words(&[whole.lo, whole.hi, whole.bounds], out, to + 1040);
 }
 
 fn show_batch(r: Batched, out: &mut [u8], to: usize)
-    requires { ⌜ to + 1064 ≤ length (now out) ⌝ }
+    requires { ⌜ to + 2064 ≤ length (now out) ⌝ }
     ensures { λ _. ⌜ length (now (out .exit)) ≡ length (now (out .entry)) ⌝ }
 {
     let a = r.answer;
@@ -259,7 +234,7 @@ fn show_batch(r: Batched, out: &mut [u8], to: usize)
 }
 
 fn show_closed(r: Closed, out: &mut [u8], to: usize)
-    requires { ⌜ to + 1064 ≤ length (now out) ⌝ }
+    requires { ⌜ to + 2064 ≤ length (now out) ⌝ }
     ensures { λ _. ⌜ length (now (out .exit)) ≡ length (now (out .entry)) ⌝ }
 {
     let a = r.answer;
@@ -301,7 +276,7 @@ fn asked(script: &[u8]) -> Board
 fn many(script: &[u8], b: Board) -> Batched
     requires { ⌜ 8192 ≤ length (now script) ⌝ }
 {
-    let n = low(wire::word(script, 8) / 4294967296) as usize;
+    let n = wire::half(wire::word(script, 8) / 4294967296) as usize;
     batch::close_many(b, run(script), n)
 }
 

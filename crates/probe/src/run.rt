@@ -4,6 +4,7 @@ ghost use Prim.Native.Nat.{_+_, _<_, _≤_};
 ghost use lib.ListN.{length};
 use super::turns;
 use domain_pairs::Kept;
+use probe_parts::behind;
 use probe_parts::lent;
 use probe_parts::record;
 use probe_parts::record::Record;
@@ -76,11 +77,14 @@ fn step(r: Record, regs: &mut [u64; 256], out: &mut [u8], to: usize) -> usize
     ensures { λ n. ⌜ (n ≤ 2112) × (length (now (out .exit)) ≡ length (now (out .entry))) ⌝ }
 {
     if 60 <= r.op {
+        let next = to + 64;
         let left = regs::get(regs, r.a);
-        let shown = lent::run(r, regs::domain(left), out, to + 64);
+        let shown = lent::run(r, regs::domain(left));
         let answer = shown.answer;
+        let cells = shown.behind;
         reply::write(r.op, reply::counted(answer), left, out, to);
-        return 64 + shown.bytes;
+        behind::write(cells, out, next);
+        return 64 + cells.many;
     }
     let t = run(r, regs);
     reply::write(r.op, t.reply, t.left, out, to);

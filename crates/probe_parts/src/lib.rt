@@ -1,4 +1,6 @@
-// What a script of calls is made of (differential/FORMAT.md): numbers as bytes, records, registers, answers, what a call leaves, and lent cells.
+// What a script of calls is made of (differential/FORMAT.md): numbers as bytes, records, registers, answers, what stands behind an answer, what a
+// call leaves, and lent cells.
+pub mod behind;
 pub mod lent;
 pub mod record;
 pub mod regs;

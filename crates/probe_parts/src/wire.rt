@@ -45,10 +45,31 @@ pub fn put_words(words: &[u64], out: &mut [u8], at: usize)
     }
 }
 
-// A signed number stands in a word as its distance from the least i32.
-const LEAST: i32 = -2147483648;
+// The first of the bytes.
+pub fn put_bytes(bytes: &[u8], many: usize, out: &mut [u8], at: usize)
+    requires { ⌜ (many ≤ length (now bytes)) × (at + many ≤ length (now out)) ⌝ }
+    ensures { λ _. ⌜ length (now (out .exit)) ≡ length (now (out .entry)) ⌝ }
+{
+    let mut i = 0;
+    while i < many {
+        out[at + i] = bytes[i];
+        i += 1;
+    }
+}
 
 const NUMBERS: u64 = 4294967296;
+
+// The low half of a word.
+pub fn half(w: u64) -> u32 {
+    (w % NUMBERS) as u32
+}
+
+pub fn pair(low: u32, high: u32) -> u64 {
+    (low as u64) | ((high as u64) << 32)
+}
+
+// A signed number stands in a word as its distance from the least i32.
+const LEAST: i32 = -2147483648;
 
 // The number that the low half of a word stands for.
 pub fn signed(w: u64) -> i32 {

@@ -2,7 +2,6 @@
 use probe_parts::lent::least;
 use probe_parts::record::Record;
 use probe_parts::wire;
-use sparse_probe_parts::regs::half;
 
 // How many cells there are of each ordering.
 pub const CELLS: usize = 4112;
@@ -21,7 +20,7 @@ pub fn blank(cells: &mut [u32; 4112], n: usize) {
 pub fn put_cell(r: Record, cells: &mut [u32; 4112]) {
     let at = r.n;
     if at < CELLS {
-        cells[at] = half(r.lo);
+        cells[at] = wire::half(r.lo);
     }
 }
 

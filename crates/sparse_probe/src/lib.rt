@@ -4,7 +4,6 @@
 //
 // It has no `requires`: it is safe on whatever it is lent.
 pub mod cells;
-pub mod change;
 pub mod run;
 
 pub use run::probe_sparse;

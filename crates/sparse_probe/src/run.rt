@@ -3,7 +3,7 @@ ghost use mathlib.Core.Path.{_≡_};
 ghost use Prim.Native.Nat.{_+_, _<_, _≤_};
 ghost use lib.ListN.{length};
 use super::cells;
-use super::change;
+use probe_parts::behind;
 use probe_parts::lent::least;
 use probe_parts::record;
 use probe_parts::record::Record;
@@ -12,8 +12,11 @@ use probe_parts::regs::Register;
 use probe_parts::reply;
 use probe_parts::turn::Turn;
 use probe_parts::turn::after;
+use probe_parts::wire;
 use sparse_inner::Sparse;
+use sparse_probe_calls::change;
 use sparse_probe_parts::lent;
+use sparse_probe_parts::lent::Seen;
 use sparse_probe_parts::regs;
 use sparse_probe_parts::seen;
 
@@ -27,10 +30,10 @@ const LENT: usize = 2;
 fn raw(r: Record) -> Sparse {
     Sparse {
         off: r.v,
-        n: regs::half(r.n as u64),
-        size: regs::half(r.lo),
-        min: regs::half(r.lo >> 32),
-        max: regs::half(r.hi),
+        n: wire::half(r.n as u64),
+        size: wire::half(r.lo),
+        min: wire::half(r.lo >> 32),
+        max: wire::half(r.hi),
     }
 }
 
@@ -38,7 +41,7 @@ fn raw(r: Record) -> Sparse {
 fn many(w: u64) -> usize
     ensures { λ r. ⌜ r ≤ 4104 ⌝ }
 {
-    least(regs::half(w) as usize, 4104)
+    least(wire::half(w) as usize, 4104)
 }
 
 // What a call is given beside the cells: set a, the other set, and how many cells of each are lent.
@@ -78,10 +81,8 @@ fn call(
     tind: &[u32],
     tval: &[u32],
     list: &[i32],
-    out: &mut [u8],
-    at: usize,
-) -> Turn
-    ensures { λ _. ⌜ length (now (out .exit)) ≡ length (now (out .entry)) ⌝ }
+) -> Seen
+    ensures { λ s. ⌜ s .behind .many ≤ 1280 ⌝ }
 {
     let ind_start = least(2, ind.len());
     let ind_end = part_end(ind_start, g.here, ind.len());
@@ -101,8 +102,6 @@ fn call(
         &tind[tind_start..tind_end],
         &tval[tval_start..tval_end],
         list,
-        out,
-        at,
     )
 }
 
@@ -119,8 +118,8 @@ fn set(r: Record, a: usize, regs: &mut [u64; 256]) -> Turn
             words::put(regs, LENT + a, regs::of_pair(r.lo, 0));
         }
         52 => {
-            let size = regs::half(r.n as u64);
-            let low = regs::pair(size, regs::half(r.lo));
+            let size = wire::half(r.n as u64);
+            let low = wire::pair(size, wire::half(r.lo));
             words::put(regs, words::STATES + r.b, regs::of_pair(low, r.lo >> 32));
         }
         62 => {
@@ -150,83 +149,47 @@ fn seen_cells(w: u64) -> usize
     inds + 8
 }
 
-// Puts the set that a record left into register a, and writes the answer at `to`.
+// Puts the set that a record left into register a. The answer tells of cursor b and of the orderings besides.
 fn finish(
     r: Record,
     a: usize,
     regs: &mut [u64; 256],
-    t: Turn,
+    s: Seen,
     ind: &[u32; 4112],
     val: &[u32; 4112],
-    out: &mut [u8],
-    to: usize,
-)
-    requires { ⌜ (a < 2) × (r .b < 8) × (to + 64 ≤ length (now out)) ⌝ }
-    ensures { λ _. ⌜ length (now (out .exit)) ≡ length (now (out .entry)) ⌝ }
+) -> Seen
+    requires { ⌜ (a < 2) × (r .b < 8) ⌝ }
+    ensures { λ f. ⌜ f .behind .many ≡ s .behind .many ⌝ }
 {
+    let t = s.turn;
+    let cells = s.behind;
     words::put(regs, a, t.left);
     let mut left = t.left;
     left.bounds = left.bounds | (words::get(regs, words::CURSORS + r.b).lo << 32);
     let mut reply = t.reply;
     reply.hi = seen::orderings(ind, val, seen_cells(words::get(regs, LENT + a).lo));
-    reply::write(r.op, reply, left, out, to);
-}
-
-// The same for whoever can't show that there is room: where there isn't, nothing is written.
-fn finish_call(
-    r: Record,
-    a: usize,
-    regs: &mut [u64; 256],
-    t: Turn,
-    ind: &[u32; 4112],
-    val: &[u32; 4112],
-    out: &mut [u8],
-    to: usize,
-)
-    ensures { λ _. ⌜ length (now (out .exit)) ≡ length (now (out .entry)) ⌝ }
-{
-    if 2 <= a {
-        return;
-    }
-    if 8 <= r.b {
-        return;
-    }
-    if out.len() < 64 {
-        return;
-    }
-    if out.len() - 64 < to {
-        return;
-    }
-    finish(r, a, regs, t, ind, val, out, to);
-}
-
-// The first n cells of both orderings behind the answer to 63.
-fn show(r: Record, ind: &[u32; 4112], val: &[u32; 4112], out: &mut [u8], at: usize)
-    requires { ⌜ at + 1280 ≤ length (now out) ⌝ }
-    ensures { λ _. ⌜ length (now (out .exit)) ≡ length (now (out .entry)) ⌝ }
-{
-    if r.op == 63 {
-        seen::show_orderings(ind, val, least(r.n, 160), out, at);
+    Seen {
+        turn: after(left, reply),
+        behind: cells,
     }
 }
 
-// The records that are no call.
+// The records that are no call. 63 shows the orderings.
 fn on_register(
     r: Record,
     a: usize,
     regs: &mut [u64; 256],
     ind: &[u32; 4112],
     val: &[u32; 4112],
-    out: &mut [u8],
-    to: usize,
-    behind: usize,
-)
-    requires { ⌜ (a < 2) × (r .b < 8) × (behind + 1280 ≤ length (now out)) ⌝ }
-    ensures { λ _. ⌜ length (now (out .exit)) ≡ length (now (out .entry)) ⌝ }
+) -> Seen
+    requires { ⌜ (a < 2) × (r .b < 8) ⌝ }
+    ensures { λ s. ⌜ s .behind .many ≤ 1280 ⌝ }
 {
     let t = set(r, a, regs);
-    show(r, ind, val, out, behind);
-    finish_call(r, a, regs, t, ind, val, out, to);
+    if r.op == 63 {
+        return lent::orderings(r, ind, val, t);
+    }
+    lent::alone(t)
 }
 
 fn on_call(
@@ -238,19 +201,15 @@ fn on_call(
     tind: &[u32; 4112],
     tval: &[u32; 4112],
     list: &[i32; 4112],
-    out: &mut [u8],
-    to: usize,
-    behind: usize,
-)
+) -> Seen
     requires { ⌜ a < 2 ⌝ }
-    ensures { λ _. ⌜ length (now (out .exit)) ≡ length (now (out .entry)) ⌝ }
+    ensures { λ s. ⌜ s .behind .many ≤ 1280 ⌝ }
 {
     let g = given_to(regs, a);
-    let t = call(r, g, regs, ind, val, tind, tval, list, out, behind);
-    finish_call(r, a, regs, t, ind, val, out, to);
+    call(r, g, regs, ind, val, tind, tval, list)
 }
 
-// Runs a record on set a, writes what it answered at `to` and what stands behind it at `behind`, and answers how many bytes that took.
+// Runs a record on set a.
 fn on_set(
     r: Record,
     a: usize,
@@ -260,19 +219,16 @@ fn on_set(
     tind: &[u32; 4112],
     tval: &[u32; 4112],
     list: &[i32; 4112],
-    out: &mut [u8],
-    to: usize,
-    behind: usize,
-) -> usize
-    requires { ⌜ (a < 2) × (r .b < 8) × (behind + 1280 ≤ length (now out)) ⌝ }
-    ensures { λ n. ⌜ (n ≤ 1344) × (length (now (out .exit)) ≡ length (now (out .entry))) ⌝ }
+) -> Seen
+    requires { ⌜ (a < 2) × (r .b < 8) ⌝ }
+    ensures { λ s. ⌜ s .behind .many ≤ 1280 ⌝ }
 {
     if sets(r.op) {
-        on_register(r, a, regs, ind, val, out, to, behind);
-        return 64 + lent::behind(r);
+        let s = on_register(r, a, regs, ind, val);
+        return finish(r, a, regs, s, ind, val);
     }
-    on_call(r, a, regs, ind, val, tind, tval, list, out, to, behind);
-    64 + lent::behind(r)
+    let s = on_call(r, a, regs, ind, val, tind, tval, list);
+    finish(r, a, regs, s, ind, val)
 }
 
 // Sets cells of set a, or listed values.
@@ -315,20 +271,31 @@ fn step(
     ind1: &mut [u32; 4112],
     val1: &mut [u32; 4112],
     list: &mut [i32; 4112],
-    out: &mut [u8],
-    to: usize,
-) -> usize
-    requires { ⌜ (r .b < 8) × (to + 1344 ≤ length (now out)) ⌝ }
-    ensures { λ n. ⌜ (n ≤ 1344) × (length (now (out .exit)) ≡ length (now (out .entry))) ⌝ }
+) -> Seen
+    requires { ⌜ r .b < 8 ⌝ }
+    ensures { λ s. ⌜ s .behind .many ≤ 1280 ⌝ }
 {
-    let behind = to + 64;
     reset(r, regs, ind0, val0, ind1, val1);
     if r.a % 2 == 0 {
         arrange(r, ind0, val0, list);
-        return on_set(r, 0, regs, ind0, val0, ind1, val1, list, out, to, behind);
+        return on_set(r, 0, regs, ind0, val0, ind1, val1, list);
     }
     arrange(r, ind1, val1, list);
-    on_set(r, 1, regs, ind1, val1, ind0, val0, list, out, to, behind)
+    on_set(r, 1, regs, ind1, val1, ind0, val0, list)
+}
+
+// Writes the answer at `to` and what stands behind it, and answers where the next answer goes.
+fn write(op: u64, s: Seen, out: &mut [u8], to: usize) -> usize
+    requires { ⌜ (s .behind .many ≤ 1280) × (to + 1344 ≤ length (now out)) ⌝ }
+    ensures { λ next. ⌜ (next ≤ length (now (out .exit))) × (length (now (out .exit)) ≡ length (now (out .entry))) ⌝ }
+{
+    let t = s.turn;
+    let cells = s.behind;
+    let behind = to + 64;
+    let next = behind + cells.many;
+    reply::write(op, t.reply, t.left, out, to);
+    behind::write(cells, out, behind);
+    next
 }
 
 fn blank_cells() -> [u32; 4112] {
@@ -354,7 +321,8 @@ pub extern "C" fn probe_sparse(script: &[u8], out: &mut [u8]) -> usize
             return to;
         }
         let r = record::read(script, at);
-        to += step(
+        at += record::SIZE;
+        let s = step(
             r,
             &mut regs,
             &mut ind0,
@@ -362,10 +330,8 @@ pub extern "C" fn probe_sparse(script: &[u8], out: &mut [u8]) -> usize
             &mut ind1,
             &mut val1,
             &mut list,
-            out,
-            to,
         );
-        at += record::SIZE;
+        to = write(r.op, s, out, to);
     }
     to
 }

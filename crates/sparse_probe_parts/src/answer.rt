@@ -5,6 +5,7 @@ use probe_parts::reply;
 use probe_parts::reply::Reply;
 use probe_parts::turn::Turn;
 use probe_parts::turn::after;
+use probe_parts::wire;
 use sparse::Changed;
 use sparse::Counted;
 use sparse::Found;
@@ -58,7 +59,7 @@ fn kept(k: Kept) -> Reply {
         Kept::State(s) => {
             let mut r = reply::plain(7);
             r.count = s.size as u64;
-            r.lo = regs::pair(s.min, s.max);
+            r.lo = wire::pair(s.min, s.max);
             r
         }
         Kept::Refused(r) => reply::refused(r),

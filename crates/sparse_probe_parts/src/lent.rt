@@ -1,11 +1,11 @@
 // The calls that are lent cells beside the orderings. A lent part starts some cells into an array; all of it, the cells before and
 // after the part among them, goes into one number, and the first of the cells go out behind the answer.
-ghost use mathlib.Core.Path.{_≡_};
-ghost use Prim.Native.Nat.{_+_, _*_, _<_, _≤_};
-ghost use lib.ListN.{length};
+ghost use Prim.Native.Nat.{_<_, _≤_};
 use super::answer;
 use super::regs;
 use super::seen;
+use probe_parts::behind;
+use probe_parts::behind::Behind;
 use probe_parts::lent::least;
 use probe_parts::record::Record;
 use probe_parts::regs::Register;
@@ -28,59 +28,82 @@ fn wanted(r: Record, most: usize) -> usize
     least((r.lo % 4096) as usize, most)
 }
 
-// How many bytes stand behind the answer.
-pub fn behind(r: Record) -> usize
-    ensures { λ n. ⌜ n ≤ 1280 ⌝ }
+// What a record leaves and answers, and what stands behind the answer.
+pub struct Seen {
+    pub turn: Turn,
+    pub behind: Behind,
+}
+
+pub fn alone(turn: Turn) -> Seen
+    ensures { λ s. ⌜ s .behind .many ≤ 1280 ⌝ }
 {
-    let op = r.op;
-    match op {
-        61 => wanted(r, 1280),
-        40 | 44 | 60 => 8 * wanted(r, 160),
-        63 => 8 * least(r.n, 160),
-        _ => 0,
+    Seen {
+        turn,
+        behind: behind::nothing(),
     }
 }
 
-fn with_seen(t: Turn, number: u64) -> Turn {
+// All lent cells in one number.
+fn numbered(t: Turn, number: u64) -> Turn {
     let mut reply = t.reply;
     reply.lo = number;
     after(t.left, reply)
 }
 
-// Lends n bytes from byte b on.
-pub fn text(r: Record, old: Register, ind: &[u32], val: &[u32], out: &mut [u8], at: usize) -> Turn
-    requires { ⌜ (r .b < 8) × (at + 1280 ≤ length (now out)) ⌝ }
-    ensures { λ _. ⌜ length (now (out .exit)) ≡ length (now (out .entry)) ⌝ }
-{
-    let start = r.b;
-    let end = start + least(r.n, 49600);
-    let mut bytes = blank_bytes();
-    let answer = sparse_text::write_text(regs::set(old), ind, val, &mut bytes[start..end]);
-    let number = seen::bytes(&bytes, end + 4);
-    seen::show_bytes(&bytes, wanted(r, 1280), out, at);
-    with_seen(after(old, answer::counted(answer)), number)
-}
-
-// What is seen of the cells to 4 past the lent part, and as many of them behind the answer as the record wants.
-fn seen_values(r: Record, cells: &[i32; 4112], t: Turn, out: &mut [u8], at: usize) -> Turn
-    requires { ⌜ (r .b < 8) × (at + 1280 ≤ length (now out)) ⌝ }
-    ensures { λ _. ⌜ length (now (out .exit)) ≡ length (now (out .entry)) ⌝ }
+// Of the values to 4 past the lent part.
+fn with_values(r: Record, cells: &[i32; 4112], t: Turn) -> Seen
+    requires { ⌜ r .b < 8 ⌝ }
+    ensures { λ s. ⌜ s .behind .many ≤ 1280 ⌝ }
 {
     let number = seen::values(cells, r.b + least(r.n, 4100) + 4);
-    seen::show_values(cells, wanted(r, 160), out, at);
-    with_seen(t, number)
+    Seen {
+        turn: numbered(t, number),
+        behind: behind::of_values(cells, wanted(r, 160)),
+    }
 }
 
-// Lends n cells from cell b on.
-pub fn to_vec(r: Record, old: Register, ind: &[u32], val: &[u32], out: &mut [u8], at: usize) -> Turn
-    requires { ⌜ (r .b < 8) × (at + 1280 ≤ length (now out)) ⌝ }
-    ensures { λ _. ⌜ length (now (out .exit)) ≡ length (now (out .entry)) ⌝ }
+fn with_bytes(r: Record, cells: &[u8; 49664], t: Turn) -> Seen
+    requires { ⌜ r .b < 8 ⌝ }
+    ensures { λ s. ⌜ s .behind .many ≤ 1280 ⌝ }
+{
+    let number = seen::bytes(cells, r.b + least(r.n, 49600) + 4);
+    Seen {
+        turn: numbered(t, number),
+        behind: behind::of_bytes(cells, wanted(r, 1280)),
+    }
+}
+
+// 60 lends n cells from cell b on, any other n bytes from byte b on.
+fn to_vec(r: Record, old: Register, ind: &[u32], val: &[u32]) -> Seen
+    requires { ⌜ r .b < 8 ⌝ }
+    ensures { λ s. ⌜ s .behind .many ≤ 1280 ⌝ }
 {
     let start = r.b;
     let end = start + least(r.n, 4100);
     let mut cells = blank_cells();
     let answer = sparse_values::to_vec(regs::set(old), ind, val, &mut cells[start..end]);
-    seen_values(r, &cells, after(old, answer::counted(answer)), out, at)
+    with_values(r, &cells, after(old, answer::counted(answer)))
+}
+
+fn text(r: Record, old: Register, ind: &[u32], val: &[u32]) -> Seen
+    requires { ⌜ r .b < 8 ⌝ }
+    ensures { λ s. ⌜ s .behind .many ≤ 1280 ⌝ }
+{
+    let start = r.b;
+    let end = start + least(r.n, 49600);
+    let mut bytes = blank_bytes();
+    let answer = sparse_text::write_text(regs::set(old), ind, val, &mut bytes[start..end]);
+    with_bytes(r, &bytes, after(old, answer::counted(answer)))
+}
+
+pub fn write(r: Record, old: Register, ind: &[u32], val: &[u32]) -> Seen
+    requires { ⌜ r .b < 8 ⌝ }
+    ensures { λ s. ⌜ s .behind .many ≤ 1280 ⌝ }
+{
+    if r.op == 60 {
+        return to_vec(r, old, ind, val);
+    }
+    text(r, old, ind, val)
 }
 
 // With scratch: 40 keeps what the other set holds, any other drops it.
@@ -109,15 +132,23 @@ pub fn part(
     t: Sparse,
     tind: &[u32],
     tval: &[u32],
-    out: &mut [u8],
-    at: usize,
-) -> Turn
-    requires { ⌜ (r .b < 8) × (at + 1280 ≤ length (now out)) ⌝ }
-    ensures { λ _. ⌜ length (now (out .exit)) ≡ length (now (out .entry)) ⌝ }
+) -> Seen
+    requires { ⌜ r .b < 8 ⌝ }
+    ensures { λ s. ⌜ s .behind .many ≤ 1280 ⌝ }
 {
     let start = r.b;
     let end = start + least(r.n, 4100);
     let mut cells = blank_cells();
     let turn = parted(r.op, s, ind, val, t, tind, tval, &mut cells[start..end]);
-    seen_values(r, &cells, turn, out, at)
+    with_values(r, &cells, turn)
+}
+
+// The first n cells of both orderings.
+pub fn orderings(r: Record, ind: &[u32; 4112], val: &[u32; 4112], turn: Turn) -> Seen
+    ensures { λ s. ⌜ s .behind .many ≤ 1280 ⌝ }
+{
+    Seen {
+        turn,
+        behind: behind::of_halves(ind, val, least(r.n, 160)),
+    }
 }

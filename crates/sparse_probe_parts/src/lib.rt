@@ -1,8 +1,6 @@
-// What a script of calls on sparse sets is made of (differential/FORMAT.md): sets as registers, the calls by their numbers, answers, and
-// what is seen of lent cells.
+// What a script of calls on sparse sets is made of (differential/FORMAT.md): sets as registers, answers, what is seen of lent cells, and the
+// calls that are lent some.
 pub mod answer;
-pub mod calls;
 pub mod lent;
-pub mod look;
 pub mod regs;
 pub mod seen;

@@ -1,17 +1,10 @@
 // Sets and saved states as they stand in the registers of `probe_parts`: sets 0 and 1 are the first two.
 use probe_parts::regs::Register;
 use probe_parts::wire;
+use probe_parts::wire::half;
+use probe_parts::wire::pair;
 use sparse_inner::Sparse;
 use sparse_inner::SparseState;
-
-// The low half of a word.
-pub fn half(w: u64) -> u32 {
-    (w % 4294967296) as u32
-}
-
-pub fn pair(low: u32, high: u32) -> u64 {
-    (low as u64) | ((high as u64) << 32)
-}
 
 pub fn set(r: Register) -> Sparse {
     Sparse {

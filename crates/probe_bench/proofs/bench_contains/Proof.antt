@@ -11,53 +11,20 @@ Inv-loop lo hi min max values d sum₀ i₀ sum i = i ≤ length values
 abbrev μ-loop : tie.MeasureT-loop
 μ-loop lo hi min max values d sum₀ i₀ sum i = length values - i
 
-domain-of-requires : tie.Need-domain-of-requires Inv-loop μ-loop
-domain-of-requires c κs = search needs
-
-loop-holds : tie.Need-loop-holds Inv-loop μ-loop
-loop-holds c = search needs
-
-mul-t9 : tie.Need-mul-t9 Inv-loop μ-loop
-mul-t9 c = search needs
-
-shared-slice-copy-out-t14 : tie.Need-shared-slice-copy-out-t14 Inv-loop μ-loop
-shared-slice-copy-out-t14 c = search needs
-
-contains-requires : tie.Need-contains-requires Inv-loop μ-loop
-contains-requires c κs = search needs
-
-told-requires : tie.Need-told-requires Inv-loop μ-loop
-told-requires c κs = search needs
-
-plus-requires : tie.Need-plus-requires Inv-loop μ-loop
-plus-requires c κs = search needs
-
-add-i : tie.Need-add-i Inv-loop μ-loop
-add-i c = search needs
-
-loop-less : tie.Need-loop-less Inv-loop μ-loop
-loop-less c = search needs
-
-loop-again : tie.Need-loop-again Inv-loop μ-loop
-loop-again c = search needs
-
-returns : tie.Need-returns Inv-loop μ-loop
-returns c = search needs
-
 pub bench-contains-spec : {M : Type 1} → statement M
 bench-contains-spec =
     tie.close
     (tie.spec
     Inv-loop
     μ-loop
-    domain-of-requires
-    loop-holds
-    mul-t9
-    shared-slice-copy-out-t14
-    contains-requires
-    told-requires
-    plus-requires
-    add-i
-    loop-less
-    loop-again
-    returns)
+    (λ c κs. search needs)
+    (λ c. search needs)
+    (λ c. search needs)
+    (λ c. search needs)
+    (λ c κs. search needs)
+    (λ c κs. search needs)
+    (λ c κs. search needs)
+    (λ c. search needs)
+    (λ c. search needs)
+    (λ c. search needs)
+    (λ c. search needs))

@@ -21,8 +21,5 @@ fits k h = record { sfits = omega (arith, mag-cond (ltb k 2147483648) (214748364
 value-requires : tie.Need-value-requires
 value-requires c κs = fits (c .args .w % 4294967296) (search needs)
 
-returns : tie.Need-returns
-returns c = search needs
-
 pub signed-spec : {M : Type 1} → statement M
-signed-spec = tie.close (tie.spec value-requires returns)
+signed-spec = tie.close (tie.spec value-requires (λ c. search needs))

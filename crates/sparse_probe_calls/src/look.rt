@@ -1,8 +1,6 @@
 // The calls that write no cell of a set.
 ghost use Prim.Native.Nat.{_<_};
-use super::answer;
 use super::calls;
-use super::regs;
 use probe_parts::record::Record;
 use probe_parts::regs as words;
 use probe_parts::regs::Register;
@@ -10,8 +8,11 @@ use probe_parts::reply;
 use probe_parts::reply::Reply;
 use probe_parts::turn::Turn;
 use probe_parts::turn::after;
+use probe_parts::wire;
 use rules::Value;
 use sparse_inner::Sparse;
+use sparse_probe_parts::answer;
+use sparse_probe_parts::regs;
 use sparse_values::ComplementCursor;
 use sparse_values::HeldCursor;
 
@@ -56,7 +57,7 @@ fn walked(r: Record, regs: &mut [u64; 256], s: Sparse, ind: &[u32], val: &[u32])
 {
     let i = words::CURSORS + r.b;
     let old = words::get(regs, i);
-    let t = walk(r.op, s, ind, val, regs::half(old.lo));
+    let t = walk(r.op, s, ind, val, wire::half(old.lo));
     words::put(regs, i, t.left);
     t.reply
 }

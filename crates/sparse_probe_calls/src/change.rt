@@ -1,19 +1,17 @@
-// The calls that may write cells of a set, by their numbers in a script.
-ghost use mathlib.Core.Path.{_≡_};
-ghost use Prim.Native.Nat.{_+_, _<_, _≤_};
-ghost use lib.ListN.{length};
+// All calls, by their numbers in a script; those that may write cells of a set first.
+ghost use Prim.Native.Nat.{_<_, _≤_};
+use super::calls;
+use super::look;
 use probe_parts::lent::least;
 use probe_parts::record::Record;
 use probe_parts::regs::Register;
-use probe_parts::reply;
 use probe_parts::turn::Turn;
 use probe_parts::turn::after;
 use rules::Value;
 use sparse_inner::Sparse;
 use sparse_probe_parts::answer;
-use sparse_probe_parts::calls;
 use sparse_probe_parts::lent;
-use sparse_probe_parts::look;
+use sparse_probe_parts::lent::Seen;
 use sparse_probe_parts::regs;
 
 // The listed values from place b up to place b + n are those that 8 is given.
@@ -70,19 +68,9 @@ fn alone(
     }
 }
 
-// 60 and 61 write out what a set holds.
-fn write(r: Record, old: Register, ind: &[u32], val: &[u32], out: &mut [u8], at: usize) -> Turn
-    requires { ⌜ (r .b < 8) × (at + 1280 ≤ length (now out)) ⌝ }
-    ensures { λ _. ⌜ length (now (out .exit)) ≡ length (now (out .entry)) ⌝ }
-{
-    if r.op == 60 {
-        return lent::to_vec(r, old, ind, val, out, at);
-    }
-    lent::text(r, old, ind, val, out, at)
-}
-
-fn run_with_room(
-    r: Record,
+// The record's b is below 8. A caller that holds all of this is past showing it, so it is made sure of here.
+pub fn run(
+    record: Record,
     regs: &mut [u64; 256],
     old: Register,
     ind: &mut [u32],
@@ -91,45 +79,16 @@ fn run_with_room(
     tind: &[u32],
     tval: &[u32],
     list: &[i32],
-    out: &mut [u8],
-    at: usize,
-) -> Turn
-    requires { ⌜ (r .b < 8) × (at + 1280 ≤ length (now out)) ⌝ }
-    ensures { λ _. ⌜ length (now (out .exit)) ≡ length (now (out .entry)) ⌝ }
+) -> Seen
+    ensures { λ s. ⌜ s .behind .many ≤ 1280 ⌝ }
 {
+    let mut r = record;
+    r.b = record.b % 8;
     let op = r.op;
     match op {
-        40 | 44 => lent::part(r, regs::set(old), ind, val, other, tind, tval, out, at),
-        41 | 42 | 43 => both(op, regs::set(old), ind, val, other, tind, tval),
-        60 | 61 => write(r, old, ind, val, out, at),
-        _ => alone(r, regs, old, ind, val, list),
+        40 | 44 => lent::part(r, regs::set(old), ind, val, other, tind, tval),
+        60 | 61 => lent::write(r, old, ind, val),
+        41 | 42 | 43 => lent::alone(both(op, regs::set(old), ind, val, other, tind, tval)),
+        _ => lent::alone(alone(r, regs, old, ind, val, list)),
     }
-}
-
-// The same for whoever can't show that there is room behind the answer: where there isn't, nothing is done.
-pub fn run(
-    r: Record,
-    regs: &mut [u64; 256],
-    old: Register,
-    ind: &mut [u32],
-    val: &mut [u32],
-    other: Sparse,
-    tind: &[u32],
-    tval: &[u32],
-    list: &[i32],
-    out: &mut [u8],
-    at: usize,
-) -> Turn
-    ensures { λ _. ⌜ length (now (out .exit)) ≡ length (now (out .entry)) ⌝ }
-{
-    if 8 <= r.b {
-        return after(old, reply::none());
-    }
-    if out.len() < 1280 {
-        return after(old, reply::none());
-    }
-    if out.len() - 1280 < at {
-        return after(old, reply::none());
-    }
-    run_with_room(r, regs, old, ind, val, other, tind, tval, list, out, at)
 }
