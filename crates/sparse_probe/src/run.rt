@@ -10,32 +10,17 @@ use probe_parts::record::Record;
 use probe_parts::regs as words;
 use probe_parts::regs::Register;
 use probe_parts::reply;
-use probe_parts::turn::Turn;
 use probe_parts::turn::after;
 use probe_parts::wire;
 use sparse_inner::Sparse;
 use sparse_probe_calls::change;
-use sparse_probe_parts::lent;
 use sparse_probe_parts::lent::Seen;
+use sparse_probe_parts::raw;
 use sparse_probe_parts::regs;
 use sparse_probe_parts::seen;
 
 // The most bytes that a record's answer and the cells behind it take.
 const MOST: usize = 1344;
-
-// How many cells of the orderings of set a are lent stands in register 2 + a, `ind` in the low half and `val` in the high half.
-const LENT: usize = 2;
-
-// Any five numbers as a set.
-fn raw(r: Record) -> Sparse {
-    Sparse {
-        off: r.v,
-        n: wire::half(r.n as u64),
-        size: wire::half(r.lo),
-        min: wire::half(r.lo >> 32),
-        max: wire::half(r.hi),
-    }
-}
 
 // So many cells are lent.
 fn many(w: u64) -> usize
@@ -58,8 +43,8 @@ fn given_to(regs: &[u64; 256], a: usize) -> Given
     Given {
         old: words::get(regs, a),
         other: regs::set(words::get(regs, 1 - a)),
-        here: words::get(regs, LENT + a).lo,
-        there: words::get(regs, LENT + 1 - a).lo,
+        here: words::get(regs, regs::LENT + a).lo,
+        there: words::get(regs, regs::LENT + 1 - a).lo,
     }
 }
 
@@ -105,38 +90,6 @@ fn call(
     )
 }
 
-// The records that are no call: 1 sets set a, 4 says how many of its cells are lent, 52 sets state b, 62 cursor b.
-fn set(r: Record, a: usize, regs: &mut [u64; 256]) -> Turn
-    requires { ⌜ (a < 2) × (r .b < 8) ⌝ }
-{
-    let op = r.op;
-    match op {
-        1 => {
-            words::put(regs, a, regs::of_set(raw(r)));
-        }
-        4 => {
-            words::put(regs, LENT + a, regs::of_pair(r.lo, 0));
-        }
-        52 => {
-            let size = wire::half(r.n as u64);
-            let low = wire::pair(size, wire::half(r.lo));
-            words::put(regs, words::STATES + r.b, regs::of_pair(low, r.lo >> 32));
-        }
-        62 => {
-            words::put(regs, words::CURSORS + r.b, regs::of_pair(r.n as u64, 0));
-        }
-        _ => {}
-    }
-    after(words::get(regs, a), reply::none())
-}
-
-fn sets(op: u64) -> bool {
-    match op {
-        0 | 1 | 4 | 5 | 6 | 10 | 52 | 62 | 63 => true,
-        _ => false,
-    }
-}
-
 // How many cells go into what is seen of the orderings: those that are lent and some past them.
 fn seen_cells(w: u64) -> usize
     ensures { λ n. ⌜ n ≤ 4112 ⌝ }
@@ -167,29 +120,11 @@ fn finish(
     let mut left = t.left;
     left.bounds = left.bounds | (words::get(regs, words::CURSORS + r.b).lo << 32);
     let mut reply = t.reply;
-    reply.hi = seen::orderings(ind, val, seen_cells(words::get(regs, LENT + a).lo));
+    reply.hi = seen::orderings(ind, val, seen_cells(words::get(regs, regs::LENT + a).lo));
     Seen {
         turn: after(left, reply),
         behind: cells,
     }
-}
-
-// The records that are no call. 63 shows the orderings.
-fn on_register(
-    r: Record,
-    a: usize,
-    regs: &mut [u64; 256],
-    ind: &[u32; 4112],
-    val: &[u32; 4112],
-) -> Seen
-    requires { ⌜ (a < 2) × (r .b < 8) ⌝ }
-    ensures { λ s. ⌜ s .behind .many ≤ 1280 ⌝ }
-{
-    let t = set(r, a, regs);
-    if r.op == 63 {
-        return lent::orderings(r, ind, val, t);
-    }
-    lent::alone(t)
 }
 
 fn on_call(
@@ -223,8 +158,8 @@ fn on_set(
     requires { ⌜ (a < 2) × (r .b < 8) ⌝ }
     ensures { λ s. ⌜ s .behind .many ≤ 1280 ⌝ }
 {
-    if sets(r.op) {
-        let s = on_register(r, a, regs, ind, val);
+    if raw::sets(r.op) {
+        let s = raw::run(r, a, regs, ind, val);
         return finish(r, a, regs, s, ind, val);
     }
     let s = on_call(r, a, regs, ind, val, tind, tval, list);

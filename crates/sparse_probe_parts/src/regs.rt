@@ -6,6 +6,9 @@ use probe_parts::wire::pair;
 use sparse_inner::Sparse;
 use sparse_inner::SparseState;
 
+// How many cells of the orderings of set a are lent stands in register 2 + a, `ind` in the low half and `val` in the high half.
+pub const LENT: usize = 2;
+
 pub fn set(r: Register) -> Sparse {
     Sparse {
         off: wire::signed(r.lo),
