@@ -9,7 +9,7 @@ use lib.IntN.{ℤ, negsuc}
 use lib.ListN.{length, getD}
 use mir.Syntax.{w32}
 use mir.Val.{SFits}
-use Rattle.offset.specs.Places.{placeOf}
+use Rattle.offset.specs.Places.{clip, placeOf}
 use Rattle.rules.specs.Board as rules
 use Rattle.rules.specs.Refusals as refusals
 use Rattle.rules.specs.declared.Refusal.{Refusal}
@@ -73,5 +73,5 @@ changed-empty : toldBy pair 256 ≡ rules.outcome true false
 changed-empty = refl
 
 minus-one : coded (rules.chute (negsuc 0)) ≡ 2147483647 * 256
-unfolding coded placeOf
+unfolding coded clip
 minus-one = refl

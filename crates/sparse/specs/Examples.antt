@@ -4,7 +4,7 @@ use mathlib.Core.Bool.{true, false}
 use mathlib.Core.List.{List, [], _∷_}
 use Prim.Native.Nat.{ℕ}
 use lib.IntN.{ℤ, pos, negsuc}
-use Rattle.offset.specs.Places.{placeOf, cutOf}
+use Rattle.offset.specs.Places.{clip}
 use Rattle.order.specs.Order.{swapped, allB, inverseB}
 use Rattle.rules.specs.declared.Refusal.the-variants.{Broken, TooWide, Short, Empty, BadState}
 use Rattle.rules.specs.declared.Value.{Value}
@@ -35,28 +35,28 @@ three = set 5 3 2 4 (4 ∷ 3 ∷ 2 ∷ 1 ∷ 0 ∷ []) (4 ∷ 3 ∷ 2 ∷ 1 ∷ 
 
 -- -1 goes, and then 0
 below-one : removeBelowOf five (v (pos 1)) ≡ after outcome.Done three
-unfolding removeBelowOf verdictOf soundB inverseB allB fitsB boundsB heldB cutOf fromCut dropWhere dropAt dropped resized lowest lowFrom highest swapped
+unfolding removeBelowOf verdictOf soundB inverseB allB fitsB boundsB heldB clip fromCut dropWhere dropAt dropped resized lowest lowFrom highest swapped
 below-one = refl
 
 -- every held value goes: only the size is set
 below-four : removeBelowOf five (v (pos 4)) ≡ after outcome.Done (emptied five)
-unfolding removeBelowOf verdictOf soundB inverseB allB fitsB boundsB heldB cutOf fromCut
+unfolding removeBelowOf verdictOf soundB inverseB allB fitsB boundsB heldB clip fromCut
 below-four = refl
 
 -- where the Rust, at the greatest i32, empties the set
 above-the-last : removeAboveOf five (v (pos 2147483647)) ≡ after outcome.Done five
-unfolding removeAboveOf verdictOf soundB inverseB allB fitsB boundsB heldB cutOf underCut dropWhere
+unfolding removeAboveOf verdictOf soundB inverseB allB fitsB boundsB heldB clip underCut dropWhere
 above-the-last = refl
 
 -- 2 goes, and then 3, which has come to stand in the place of 2
 above-one : removeAboveOf five (v (pos 1)) ≡ after outcome.Done (set 5 3 0 2 (0 ∷ 1 ∷ 2 ∷ 4 ∷ 3 ∷ []) (0 ∷ 1 ∷ 2 ∷ 4 ∷ 3 ∷ []))
-unfolding removeAboveOf verdictOf soundB inverseB allB fitsB boundsB heldB cutOf underCut dropWhere dropAt dropped resized lowest lowFrom highest swapped
+unfolding removeAboveOf verdictOf soundB inverseB allB fitsB boundsB heldB clip underCut dropWhere dropAt dropped resized lowest lowFrom highest swapped
 above-one = refl
 
 -- ---- answers
 
 outside : removeOf five (v (pos 4)) ≡ after (told.Is false) five
-unfolding removeOf verdictOf soundB inverseB allB fitsB boundsB heldB isHeld placeOf dropAt
+unfolding removeOf verdictOf soundB inverseB allB fitsB boundsB heldB isHeld clip dropAt
 outside = refl
 
 smallest : minOf three ≡ found.At (v (pos 1))

@@ -5,7 +5,7 @@ use mathlib.Core.List.{List, [], _∷_}
 use Prim.Native.Nat.{ℕ}
 use lib.IntN.{pos}
 use lib.ListN.{replicate}
-use Rattle.offset.specs.Places.{placeOf}
+use Rattle.offset.specs.Places.{clip}
 use Rattle.order.specs.Order.{swapped, allB, inverseB}
 use Rattle.rules.specs.Sets.{Chutes}
 use Rattle.rules.specs.declared.Refusal.the-variants.{NoRoom}
@@ -35,12 +35,12 @@ scratch = replicate 6 (pos 9)
 
 -- 0, 1, 2 and 4 go, in the order held at entry: [3|4,2,1,0]
 common : intersectOf five other scratch ≡ pared outcome.Done (set 0 5 1 3 3 (4 ∷ 3 ∷ 2 ∷ 0 ∷ 1 ∷ []) (3 ∷ 4 ∷ 2 ∷ 1 ∷ 0 ∷ [])) (pos 0 ∷ pos 1 ∷ pos 2 ∷ pos 4 ∷ pos 9 ∷ pos 9 ∷ [])
-unfolding partOf parted dropEach bothOf soundB inverseB allB fitsB boundsB isHeld setOf placeOf dropAt dropped resized heldB swapped lowest lowFrom highest
+unfolding partOf parted dropEach bothOf soundB inverseB allB fitsB boundsB isHeld setOf clip dropAt dropped resized heldB swapped lowest lowFrom highest
 common = refl
 
 -- 3 goes: [0,1,2,4|3]
 difference : diffOf five other scratch ≡ pared outcome.Done (set 0 5 4 0 4 (0 ∷ 1 ∷ 2 ∷ 4 ∷ 3 ∷ []) (0 ∷ 1 ∷ 2 ∷ 4 ∷ 3 ∷ [])) (pos 3 ∷ pos 9 ∷ pos 9 ∷ pos 9 ∷ pos 9 ∷ pos 9 ∷ [])
-unfolding partOf parted dropEach bothOf soundB inverseB allB fitsB boundsB isHeld setOf placeOf dropAt dropped resized heldB swapped lowest lowFrom highest
+unfolding partOf parted dropEach bothOf soundB inverseB allB fitsB boundsB isHeld setOf clip dropAt dropped resized heldB swapped lowest lowFrom highest
 difference = refl
 
 -- scratch goes by what is held at entry, not by what goes
@@ -50,17 +50,17 @@ no-room = refl
 
 -- 3 comes, and 6 is outside the universe: [0,3|2,1,4]
 joined : unionOf one other ≡ after outcome.Done (set 0 5 2 0 3 (0 ∷ 3 ∷ 2 ∷ 1 ∷ 4 ∷ []) (0 ∷ 3 ∷ 2 ∷ 1 ∷ 4 ∷ []))
-unfolding unionOf addEach bothOf soundB inverseB allB fitsB boundsB isHeld setOf placeOf addAt added resized heldB swapped lowest lowFrom highest
+unfolding unionOf addEach bothOf soundB inverseB allB fitsB boundsB isHeld setOf clip addAt added resized heldB swapped lowest lowFrom highest
 joined = refl
 
 part-of : isSubsetOf one five ≡ told.Is true
-unfolding isSubsetOf bothOf soundB inverseB allB fitsB boundsB isHeld setOf placeOf heldB
+unfolding isSubsetOf bothOf soundB inverseB allB fitsB boundsB isHeld setOf clip heldB
 part-of = refl
 
 not-part-of : isSubsetOf other five ≡ told.Is false
-unfolding isSubsetOf bothOf soundB inverseB allB fitsB boundsB isHeld setOf placeOf heldB
+unfolding isSubsetOf bothOf soundB inverseB allB fitsB boundsB isHeld setOf clip heldB
 not-part-of = refl
 
 unequal : equalsOf one five ≡ told.Is false
-unfolding equalsOf bothOf soundB inverseB allB fitsB boundsB isHeld setOf placeOf heldB
+unfolding equalsOf bothOf soundB inverseB allB fitsB boundsB isHeld setOf clip heldB
 unequal = refl

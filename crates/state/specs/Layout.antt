@@ -15,7 +15,7 @@ use Prim.Native.Nat.{ℕ, zero, suc, _+_, _*_, _^_, _/_, _%_}
 use lib.Dec.{eqb, ltb}
 use lib.IntN.{ℤ, pos, negsuc, _+ℤ_, _-ℤ_}
 use lib.ListN.{getD, take, drop}
-use Rattle.offset.specs.Places.{placeOf}
+use Rattle.offset.specs.Places.{clip, placeOf}
 use Rattle.saved.specs.Upto.{upto}
 use Rattle.board.specs.declared.Row.{Row}
 use Rattle.board.specs.declared.Board.{Board}
@@ -84,15 +84,15 @@ readOf ws = record { rows = rowsIn ws 0 64; count = getD ws 0 0; saved = take 10
 
 -- ---- examples: the ends of i32, and zero
 least-half : half (negsuc 2147483647) ≡ 0
-unfolding placeOf
+unfolding clip
 least-half = refl
 
 zero-half : half (pos 0) ≡ 2147483648
-unfolding placeOf
+unfolding clip
 zero-half = refl
 
 most-half : half (pos 2147483647) ≡ 4294967295
-unfolding placeOf
+unfolding clip
 most-half = refl
 
 most-back : chuteAt 4294967295 ≡ pos 2147483647
