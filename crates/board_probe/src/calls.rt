@@ -1,8 +1,7 @@
-// The calls on a board by their numbers in a script, gathered by what they answer.
+// The calls that change a board by their numbers in a script, gathered by what they answer.
 use board::Board;
 use board::Closed;
 use board::Settled;
-use domain::Told;
 use rules::Value;
 use rules::Variable;
 
@@ -21,13 +20,5 @@ pub fn settled(op: u64, b: Board) -> Settled {
         52 => trial::mark(b),
         53 => trial::restore(b),
         _ => trial::keep(b),
-    }
-}
-
-pub fn told(op: u64, b: Board, id: Variable) -> Told {
-    match op {
-        29 => board_close::domains_changed(b),
-        33 => board_ask::is_assigned(b, id),
-        _ => board_ask::is_inconsistent(b, id),
     }
 }

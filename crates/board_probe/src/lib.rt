@@ -3,7 +3,6 @@
 // probe_board: runs a script of calls, bytes in, answers and what shows the board as bytes out (differential/FORMAT.md says which)
 //
 // It has no `requires`: it is safe on whatever it is lent.
-pub mod asks;
 pub mod calls;
 pub mod changes;
 pub mod run;

@@ -2,10 +2,10 @@
 ghost use mathlib.Core.Path.{_≡_};
 ghost use Prim.Native.Nat.{_+_, _<_, _≤_};
 ghost use lib.ListN.{length};
-use super::asks;
 use super::changes;
 use super::changes::Turn;
 use board::Board;
+use board_probe_parts::asks;
 use board_probe_parts::lent;
 use board_probe_parts::raw;
 use board_probe_parts::run as parts;

@@ -1,11 +1,11 @@
-// The records that leave a board as it is.
+// The calls that leave a board as it is, by their numbers in a script.
 ghost use Prim.Native.Nat.{_<_};
-use super::calls;
+use super::raw;
+use super::reply as answers;
+use super::run as parts;
 use board::Board;
 use board_ask::IdCursor;
-use board_probe_parts::raw;
-use board_probe_parts::reply as answers;
-use board_probe_parts::run as parts;
+use domain::Told;
 use probe_parts::record::Record;
 use probe_parts::regs;
 use probe_parts::regs::Register;
@@ -13,6 +13,15 @@ use probe_parts::reply;
 use probe_parts::reply::Reply;
 use probe_parts::turn;
 use probe_parts::turn::Turn;
+use rules::Variable;
+
+fn told(op: u64, b: Board, id: Variable) -> Told {
+    match op {
+        29 => board_close::domains_changed(b),
+        33 => board_ask::is_assigned(b, id),
+        _ => board_ask::is_inconsistent(b, id),
+    }
+}
 
 // What is left of a cursor: 37 and 38 walk the chutes of a destination, the others the ids.
 fn walk(r: Record, b: Board, old: Register) -> Turn {
@@ -66,7 +75,7 @@ pub fn run(r: Record, b: Board, regs: &mut [u64; 256], ids: &[u32]) -> Reply
 {
     let op = r.op;
     match op {
-        29 | 33 | 35 => reply::told(calls::told(op, b, raw::id(r))),
+        29 | 33 | 35 => reply::told(told(op, b, raw::id(r))),
         32 => reply::counted(board_ask::domain_size(b, raw::id(r))),
         34 => reply::found(board_ask::assigned_value(b, raw::id(r))),
         36 => answers::bounds(board_ask::get_bounds(b, raw::id(r))),
