@@ -13,6 +13,7 @@ use Rattle.board.proofs.WellLaws.{and-says}
 use Rattle.state.specs.Layout.{size, fitsOf, readOf, writtenOf}
 use Rattle.state.specs.Typed.{Words}
 use Rattle.state.proofs.Theorems.{written-back}
+use Rattle.reply.specs.Lent.{through as lending}
 use Rattle.reply.specs.Through.{good, lentTo, Reply, through}
 use Rattle.demand.specs.Script.{Made, boardOf, answerOf}
 use Rattle.refusals.proofs.Reading.{split}
@@ -20,10 +21,10 @@ use Rattle.refusals.proofs.Boards.{refused-same}
 
 -- the by-value call m, as the library makes it
 abbrev pub replyOf : Made → Board → Reply
-replyOf m b = record { board = boardOf m b; answer = answerOf m b }
+replyOf m b = record { state = boardOf m b; answer = answerOf m b }
 
 pub words-same : (m : Made) (ws : List ℕ) → Words ws → (r : Refusal) → lentTo ws (λ a. a) (answerOf m) ≡ rules.denied r → through (replyOf m) ws .cells ≡ ws
-unfolding through
+unfolding lending
 words-same m ws fit r e =
     split (ltb (length ws) size)
     (λ few. rw few)
