@@ -11,7 +11,8 @@ use Rattle.domain.specs.Set.{valuesOf, bitsOf}
 use Rattle.domain.specs.Calls.{newOf, betweenOf}
 use Rattle.sheet_number.specs.Number.{isDigit, inRun, run, digits, positive, written, got, faultAt, numberAt, byteAt}
 use Rattle.sheet_number.specs.Reader.{natural, value, field, each}
-use Rattle.sheet_sections.specs.Sections.{destination, kindFor, closing, count, list, section}
+use Rattle.closing.specs.Kinds.{kindFor}
+use Rattle.sheet_sections.specs.Sections.{destination, closing, count, list, section}
 use Rattle.sheet.specs.Sheet.{end, sheet, readSheet}
 use Rattle.wave_form.specs.Sample.{sample}
 use Rattle.wave_print.specs.Print.{boundsText, rowText, pairText, refusedText, saidText, lineText, rowsText, linesText, printed}
