@@ -23,8 +23,11 @@ def sources(crate):
 
 def public_calls(crate):
     """The public functions that stand in no module `inner`, of a crate that a heading of docs/CALLS.md names."""
-    if not re.search(r"^## .*`%s`" % crate, read("docs/CALLS.md"), re.M):
-        return []
+    return public_functions(crate) if re.search(r"^## .*`%s`" % crate, read("docs/CALLS.md"), re.M) else []
+
+
+def public_functions(crate):
+    """The public functions of a crate that stand in no module `inner`."""
     texts = [text for name, text in sources(crate).items() if name != "inner.rt"]
     return [name for text in texts for name in re.findall(r'^ *pub (?:extern "C" )?fn (\w+)', text, re.M)]
 
