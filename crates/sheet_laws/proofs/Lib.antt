@@ -3,4 +3,7 @@ pub mod Canonical
 pub mod Round
 pub mod Only
 pub mod Places
+pub mod Tokens
+pub mod Stops
+pub mod FaultFirst
 pub mod Examples

@@ -318,7 +318,7 @@ made-whole s ds cs ls a b c e p q r h z g =
       whole = omega (arith, t .within);
     }
 
-sheet-writes : (s : List ℕ) (sh : Sheet) (e : ℕ) → sheet s 0 ≡ got sh e → Accepted s sh e
+pub sheet-writes : (s : List ℕ) (sh : Sheet) (e : ℕ) → sheet s 0 ≡ got sh e → Accepted s sh e
 unfolding sheet
 sheet-writes s sh e q =
     let k1 = after-inv (section 64 destination s 0) _ sh e q in
@@ -336,7 +336,7 @@ sheet-writes s sh e q =
     (made-whole s (k1 .0) (k2 .0) (k3 .0) (k1 .1) (k2 .1) (k3 .1) e (h1 .0) (h2 .0) (h3 .0) (n .0) (n .1 ∙ i .1)
     (record { destinations = h1 .1; closings = h2 .1; lists = all-right Short Fitting (k3 .0) (h3 .1); few = few }))
 
-long-by : (t : Bool) (k : Fault) (p : ℕ) (g : Got Sheet) (sh : Sheet) (e : ℕ) → cond t (fault k p) g ≡ got sh e → g ≡ got sh e
+pub long-by : (t : Bool) (k : Fault) (p : ℕ) (g : Got Sheet) (sh : Sheet) (e : ℕ) → cond t (fault k p) g ≡ got sh e → g ≡ got sh e
 long-by true k p g sh e q = let z : _≡_ {A = ℕ} 0 1 = cc in absurd (omega arith)
 long-by false k p g sh e q = q
 

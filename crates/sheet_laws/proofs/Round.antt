@@ -31,26 +31,31 @@ use Rattle.sheet.proofs.Sections.{sheet-read}
 use Rattle.sheet_laws.proofs.Back.{number-back}
 
 -- m reads w, wherever it stands and whatever follows, as a
-abbrev Reads : {A : Type 0} → Reader A → List ℕ → A → Type 0
+abbrev pub Reads : {A : Type 0} → Reader A → List ℕ → A → Type 0
 Reads m w a = (front rest : List ℕ) → m (front ++ (w ++ rest)) (length front) ≡ got a (length front + length w)
 
 -- ---- composition
 
-reads-pure : {A : Type 0} (a : A) → Reads (pure a) [] a
+pub reads-pure : {A : Type 0} (a : A) → Reads (pure a) [] a
 reads-pure a front rest = ap (λ (k : ℕ). got a k) (sym (add-zero (length front)))
 
-reads-then : {A B : Type 0} (m : Reader A) (f : A → Reader B) (w v : List ℕ) (a : A) (b : B) → Reads m w a → Reads (f a) v b → Reads (m >>= f) (w ++ v) b
-reads-then m f w v a b p q front rest =
+pub place-then : (front w v : List ℕ) → length (front ++ w) + length v ≡ length front + length (w ++ v)
+place-then front w v = omega (arith, length-append front w, length-append w v)
+
+-- once m has read w as a, it is f a that goes on
+pub goes-on : {A B : Type 0} (m : Reader A) (f : A → Reader B) (w v : List ℕ) (a : A) → Reads m w a → (front rest : List ℕ)
+    → _>>=_ m f (front ++ ((w ++ v) ++ rest)) (length front) ≡ f a ((front ++ w) ++ (v ++ rest)) (length (front ++ w))
+goes-on m f w v a p front rest =
     let s : List ℕ = front ++ (w ++ (v ++ rest)) in
     let e : front ++ ((w ++ v) ++ rest) ≡ s = ap (λ (x : List ℕ). front ++ x) (append-assoc w v rest) in
     let g : s ≡ (front ++ w) ++ (v ++ rest) = sym (append-assoc front w (v ++ rest)) in
     let n : length front + length w ≡ length (front ++ w) = sym (length-append front w) in
-    let k : length (front ++ w) + length v ≡ length front + length (w ++ v) = omega (arith, length-append front w, length-append w v) in
     ap (λ (x : List ℕ). after (m x (length front)) (λ a e. f a x e)) e
     ∙ ap (λ (y : Got _). after y (λ a e. f a s e)) (p front (v ++ rest))
     ∙ ap₂ (λ (x : List ℕ) (y : ℕ). f a x y) g n
-    ∙ q (front ++ w) rest
-    ∙ ap (λ (y : ℕ). got b y) k
+
+pub reads-then : {A B : Type 0} (m : Reader A) (f : A → Reader B) (w v : List ℕ) (a : A) (b : B) → Reads m w a → Reads (f a) v b → Reads (m >>= f) (w ++ v) b
+reads-then m f w v a b p q front rest = goes-on m f w v a p front rest ∙ q (front ++ w) rest ∙ ap (λ (y : ℕ). got b y) (place-then front w v)
 
 -- ---- a field
 
@@ -67,7 +72,7 @@ run-none b rest e = rw e
 module _ {A : Type 0} (m : Reader A) (z low high : ℤ) (a : A) (b : ℕ)
     (reads : (s : List ℕ) (at e : ℕ) → numberAt s at low high ≡ got z e → m s at ≡ got a e)
     (above : leZ low z ≡ true) (below : leZ z high ≡ true) (stop : inRun b ≡ false) where
-  reads-field : Reads (field m b) (writeField z b) a
+  pub reads-field : Reads (field m b) (writeField z b) a
   reads-field front rest =
       let e : front ++ ((decimal z ++ (b ∷ [])) ++ rest) ≡ front ++ (decimal z ++ (b ∷ rest)) = ap (λ (x : List ℕ). front ++ x) (append-assoc (decimal z) (b ∷ []) rest) in
       let g : front ++ (decimal z ++ (b ∷ rest)) ≡ (front ++ decimal z) ++ (b ∷ rest) = sym (append-assoc front (decimal z) (b ∷ rest)) in
@@ -99,27 +104,27 @@ reads-value : (z : ℤ) (b : ℕ) → SFits w32 z → inRun b ≡ false → Read
 reads-value z b f stop =
     reads-field value z (negsuc 2147483647) (pos 2147483647) z b (value-number z) (value-above z f) (value-below z f) stop
 
-stop-space : inRun 32 ≡ false
+pub stop-space : inRun 32 ≡ false
 unfolding inRun isDigit
 stop-space = refl
 
-stop-line : inRun 10 ≡ false
+pub stop-line : inRun 10 ≡ false
 unfolding inRun isDigit
 stop-line = refl
 
-stop-gap : (n : ℕ) → inRun (gap n) ≡ false
+pub stop-gap : (n : ℕ) → inRun (gap n) ≡ false
 stop-gap zero = stop-line
 stop-gap (suc n) = stop-space
 
 -- ---- the lines
 
-abbrev d3 : ℕ → ℤ → ℤ → Reader Destination
+abbrev pub d3 : ℕ → ℤ → ℤ → Reader Destination
 d3 i lo hi = pure (record { id = record { 0 = i }; min = record { 0 = lo }; max = record { 0 = hi } })
 
-abbrev d2 : ℕ → ℤ → Reader Destination
+abbrev pub d2 : ℕ → ℤ → Reader Destination
 d2 i lo = field value 10 >>= d3 i lo
 
-abbrev d1 : ℕ → Reader Destination
+abbrev pub d1 : ℕ → Reader Destination
 d1 i = field value 32 >>= d2 i
 
 reads-destination : (d : Destination) → GoodDestination d → Reads destination (writeDestination d) d
@@ -153,13 +158,13 @@ kind-back Above = refl
 abbrev closingOf : Kind → ℕ → ℤ → Closing
 closingOf a i v = record { kind = a; id = record { 0 = i }; value = record { 0 = v } }
 
-abbrev c3 : ℕ → ℕ → ℤ → Reader Closing
+abbrev pub c3 : ℕ → ℕ → ℤ → Reader Closing
 c3 k i v = pure (closingOf (kindFor k) i v)
 
-abbrev c2 : ℕ → ℕ → Reader Closing
+abbrev pub c2 : ℕ → ℕ → Reader Closing
 c2 k i = field value 10 >>= c3 k i
 
-abbrev c1 : ℕ → Reader Closing
+abbrev pub c1 : ℕ → Reader Closing
 c1 k = field id 32 >>= c2 k
 
 reads-kind : (c : Closing) → Reads (c3 (numberFor (c .kind)) (c .id .0) (c .value .0)) [] c
