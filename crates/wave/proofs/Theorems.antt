@@ -1,11 +1,13 @@
--- What the wave prints is what the rules of 01 say of its sheet; its text is never longer than `most`; with that much room it is never refused.
--- Assumes nothing.
+-- What the wave prints is what the rules of 01 say of its sheet; its text is never longer than `most`; it is refused exactly where the text doesn't
+-- fit, so with that much room never. Assumes nothing.
 use mathlib.Core.Path.{_≡_, refl, sym, ap, ap₂, _∙_, subst}
-use mathlib.Core.Bool.{Bool, cond}
+use mathlib.Core.Bool.{Bool, true, false}
 use mathlib.Core.List.{List, [], _∷_, _++_, map}
-use Prim.Native.Nat.{ℕ, suc, _≤_}
+use mathlib.Core.Logic.{_↔_}
+use Prim.Native.Nat.{ℕ, suc, _≤_, _<_}
 use native.Mathlib.Omega.{arith}
-use borrow.Author.Tests.{le-leb}
+use borrow.Author.Tests.{leb-true, leb-false}
+use lib.Dec.{leb}
 use lib.ListN.{length, take, drop, length-map}
 use Rattle.rules.specs.Board as rules
 use Rattle.rules.specs.declared.Refusal.the-variants.{NoRoom}
@@ -13,7 +15,7 @@ use Rattle.rules.proofs.WellFormed.{well-blank, well-run}
 use Rattle.board.specs.View.{view}
 use Rattle.board.proofs.WellLaws.{well-says}
 use Rattle.domain.specs.declared.Counted.the-variants.{Count}
-use Rattle.domain_text.specs.Text.{refuses}
+use Rattle.domain_text.specs.Text.{Written, refuses}
 use Rattle.sheet_form.specs.declared.Destination.{Destination}
 use Rattle.sheet_form.specs.declared.Line.{Line}
 use Rattle.sheet_form.specs.Sheet.{Sheet, All, Few}
@@ -33,6 +35,7 @@ use Rattle.wave_print.proofs.Room.{printed-few, bad-few}
 use Rattle.wave.specs.Text.{toldOf, waveText, waveOf, ranText}
 use Rattle.wave.proofs.Small.{Within32, brief-run}
 use Rattle.wave.proofs.Answers.{answers-terse}
+use Rattle.wave.proofs.Writing.{room, no-room}
 
 -- ---- what is printed
 
@@ -96,13 +99,41 @@ text-few bytes = go (readSheet bytes) refl
     go (got sh e) q = subst (λ (t : List ℕ). length t ≤ most) (sym (prints-ruled bytes sh e q)) (good-few sh (only-good bytes sh e q .good))
     go (fault why p) q = subst (λ (t : List ℕ). length t ≤ most) (sym (prints-bad bytes why p q)) (bad-few p (omega (arith, fault-place bytes why p q)))
 
--- with as much room the wave is never refused
-pub always-room : (bytes cells : List ℕ) → most ≤ length cells → waveOf bytes cells .answer ≡ Count (length (waveText bytes))
-unfolding waveOf
-always-room bytes cells h =
-    let t = waveText bytes in
-    ap (λ (b : Bool). cond b (record { answer = Count (length t); cells = t ++ drop (length t) cells }) (refuses NoRoom cells) .answer)
-    (le-leb (length t) (length cells) (omega (arith, text-few bytes)))
+-- ---- where it fits
+
+either : {A : Type 0} (m n : ℕ) → (m ≤ n → A) → (n < m → A) → A
+either {A} m n f g = go (leb m n) refl
+  where
+    go : (b : Bool) → leb m n ≡ b → A
+    go true e = f (leb-true m n e)
+    go false e = g (leb-false m n e)
+
+module _ (bytes cells : List ℕ) where
+  -- the text in the first of the lent bytes, the others as they came, and how long it is
+  abbrev pub textFirst : Written
+  textFirst = record { answer = Count (length (waveText bytes)); cells = waveText bytes ++ drop (length (waveText bytes)) cells }
+
+  fits : length (waveText bytes) ≤ length cells → waveOf bytes cells ≡ textFirst
+  unfolding waveOf
+  fits h = sym (room (waveText bytes) cells refl h refl)
+
+  refused : length cells < length (waveText bytes) → waveOf bytes cells ≡ refuses NoRoom cells
+  unfolding waveOf
+  refused h = sym (no-room (waveText bytes) cells refl h)
+
+  apart : textFirst ≡ refuses NoRoom cells → ⊥
+  apart e = let f = ap (λ (w : Written). w .answer) e in let z : _≡_ {A = ℕ} 0 1 = cc in omega arith
+
+  -- the text is written exactly where it fits; it is NoRoom, and all lent bytes are as they came, exactly where it is longer
+  pub room-exactly : ((waveOf bytes cells ≡ textFirst) ↔ (length (waveText bytes) ≤ length cells)) × ((waveOf bytes cells ≡ refuses NoRoom cells) ↔ (length cells < length (waveText bytes)))
+  room-exactly =
+      either (length (waveText bytes)) (length cells)
+      (λ h. ((λ e. h, fits), (λ e. absurd (apart (sym (fits h) ∙ e)), λ k. absurd (omega arith))))
+      (λ k. ((λ e. absurd (apart (sym e ∙ refused k)), λ h. absurd (omega arith)), (λ e. k, refused)))
+
+  -- with as much room as `most` the wave is never refused
+  pub always-room : most ≤ length cells → waveOf bytes cells .answer ≡ Count (length (waveText bytes))
+  always-room h = ap (λ (w : Written). w .answer) (room-exactly .0 .1 (omega (arith, text-few bytes)))
 
 -- ---- what the code comes to
 
