@@ -22,6 +22,7 @@ use Rattle.sparse.specs.Calls.{sizeOf, isEmptyOf, isFixedOf, containsOf, minOf,
 use Rattle.sparse_make.specs.Calls.{roomFor, betweenOf, newOf, newUncheckedOf, fromValuesOf}
 use Rattle.sparse_pairs.specs.Calls.{partOf, unionOf, isSubsetOf, equalsOf}
 use Rattle.sparse_values.specs.declared.HeldCursor.{HeldCursor}
+use Rattle.sparse_values.specs.declared.ComplementCursor.{ComplementCursor}
 use Rattle.sparse_values.specs.declared.Yielded.the-variants as yielded
 use Rattle.sparse_values.specs.Calls.{pastHeld, nextOf, complementNextOf, toVecOf}
 use Rattle.sparse_text.specs.Text.{textOf, writeTextOf}
@@ -140,6 +141,10 @@ refused-same (fromValues (v ∷ vs) ind val) r e =
 
 -- ---- the end of a walk
 
+-- a cursor that yields a value hasn't ended
+going : {v : Value} → yielded.Next v ≡ yielded.End → ⊥
+going e = let z : _≡_ {A = ℕ} 0 1 = cc in omega arith
+
 -- a cursor over a well-formed set has ended exactly at or past the size
 pub ended-exactly : (f : Full) (c : HeldCursor) → verdictOf f ≡ Fine → (nextOf f c .answer ≡ yielded.End) ↔ (f .set .size ≤ c .at)
 unfolding nextOf
@@ -147,6 +152,14 @@ ended-exactly f c w = (
   λ e. split (ltb (c .at) (f .set .size)) (λ h. absurd (going (rw (w, h) at e))) (λ h. ltb-false (c .at) (f .set .size) h),
   λ h. rw (w, le-ltb (c .at) (f .set .size) h),
 )
-  where
-    going : {v : Value} → yielded.Next v ≡ yielded.End → ⊥
-    going e = let z : _≡_ {A = ℕ} 0 1 = cc in omega arith
+
+-- one over what isn't held, exactly at or past n, a place among the held cells standing for the first that isn't; and it is handed back as it came
+pub complement-ended-exactly : (f : Full) (c : ComplementCursor) → verdictOf f ≡ Fine → ((complementNextOf f c .answer ≡ yielded.End) ↔ (f .set .n ≤ pastHeld (f .set .size) (c .at))) × (complementNextOf f c .answer ≡ yielded.End → complementNextOf f c .cursor ≡ c)
+unfolding complementNextOf
+complement-ended-exactly f c w = (
+  (
+    λ e. split (ltb (pastHeld (f .set .size) (c .at)) (f .set .n)) (λ h. absurd (going (rw (w, h) at e))) (λ h. ltb-false (pastHeld (f .set .size) (c .at)) (f .set .n) h),
+    λ h. rw (w, le-ltb (pastHeld (f .set .size) (c .at)) (f .set .n) h),
+  ),
+  λ e. split (ltb (pastHeld (f .set .size) (c .at)) (f .set .n)) (λ h. absurd (going (rw (w, h) at e))) (λ h. rw (w, h)),
+)
