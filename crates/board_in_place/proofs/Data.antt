@@ -24,6 +24,7 @@ board = struct-kind Boa.the-type Boa′.the-laws Boa′.the-plain
 abbrev pub told : Kind
 told = enum-kind Tol.the-type Tol′.the-laws tt Tol′.the-plain
 
+-- the struct that a call by value hands back
 abbrev pub both-told : Two board told
 both-told =
     two Boa.the-type Boa′.the-laws Boa′.the-plain Tol.the-type Tol′.the-laws tt Tol′.the-plain (Clo.the-type .name) (Clo.the-type .args) (Clo.the-type .D) (λ r. r .board) (λ r. r .answer) (Clo.the-type .to-one) closed

@@ -2,7 +2,8 @@
 // of the call by value. A refused call leaves it as it was.
 //
 // remove_value, assign_variable, remove_below, remove_above; each is thin over the call of `board_close` by its name.
-// remove_value_here, assign_variable_here, ..: the same by value, for callers that hold no reference
+// remove_value_here, assign_variable_here, ..: the same by value, each lending a local to the call above it: only a proof by hand can hold a reference
+// to a struct, so other proved code reaches the calls above through these
 ghost use mathlib.Core.Path.{_≡_};
 ghost use Rattle.rules.specs.Board.{remove, assign, below, above};
 ghost use Rattle.board_close.specs.Close.{closeOf};

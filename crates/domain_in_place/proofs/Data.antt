@@ -25,6 +25,7 @@ told = enum-kind Tol.the-type Tol′.the-laws tt Tol′.the-plain
 abbrev pub outcome : Kind
 outcome = enum-kind Out.the-type Out′.the-laws tt Out′.the-plain
 
+-- the structs that the calls by value hand back
 abbrev pub both-told : Two domain told
 both-told =
     two Dom.the-type Dom′.the-laws Dom′.the-plain Tol.the-type Tol′.the-laws tt Tol′.the-plain (Cha.the-type .name) (Cha.the-type .args) (Cha.the-type .D) (λ r. r .domain) (λ r. r .answer) (Cha.the-type .to-one) changed

@@ -1,8 +1,9 @@
-// The calls that change a domain, through a reference: what stands behind it is narrowed in place, and the answer is that of
+// The calls that change a domain, through a reference: what stands behind it is changed in place, and the answer is that of
 // the call by value. A refused call leaves it as it was.
 //
 // insert, remove, remove_all_but, remove_below, remove_above; each is thin over the call of `domain` by its name.
-// insert_here, remove_here, ..: the same by value, for callers that hold no reference
+// insert_here, remove_here, ..: the same by value, each lending a local to the call above it: only a proof by hand can hold a reference to a struct, so
+// other proved code reaches the calls above through these
 ghost use mathlib.Core.Path.{_≡_};
 ghost use Rattle.rules.specs.Board.{assign, below, above};
 ghost use Rattle.domain.specs.Calls.{insertOf, removeOf, closeOf};

@@ -1,6 +1,8 @@
--- The contracts of a call on a state d with further parameters x, by value and through a reference, for a definition f. They are what the contracts `r ≡ f d x` and `both (now (d .exit)) r ≡ f (now (d .entry)) x` of a program mean.
---     Answers, AnswersBehind       what each tells.        ByValue, Behind     as triples, of which a caller knows the callee by
---     Holds, HoldsBehind, as-stated    the clauses that a program states hold of it, and so a run that tells it meets them
+-- The contracts of a call on a state d with further parameters x, by value and through a reference, for a definition f. They are what the
+-- contracts `r ≡ f d x` and `both (now (d .exit)) r ≡ f (now (d .entry)) x` of a program mean.
+--     Answers, AnswersBehind           what each tells
+--     ByValue, Behind                  the same as triples: all that a caller knows of its callee
+--     Holds, HoldsBehind, as-stated    the clauses that a program states follow from what is told, so a run that tells it meets them
 -- `as-stated` assumes `Given`. All else assumes nothing.
 use mathlib.Core.Path.{_≡_}
 use mathlib.Core.List.{List, [], _∷_}

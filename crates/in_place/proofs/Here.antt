@@ -1,5 +1,7 @@
--- `fn call_here(d: T, x: .., y: ..) -> R { let mut e = d; let a = call(&mut e, x, y); R { state: e, answer: a } }` meets its contract, for any types, any number of further parameters and any callee that meets the contract through a reference: a walk of its MIR, by hand. A lifetime is made, a local is lent for it by `&mut`, the callee is called, the lifetime is ended, and the local is back at the last value that the contract says; it and the answer are the result.
--- Assumes nothing.
+-- `fn call_here(d: T, x: .., y: ..) -> R { let mut e = d; let a = call(&mut e, x, y); R { state: e, answer: a } }` meets its contract, for any types, any
+-- number of further parameters, and any callee that meets the contract through a reference. The proof goes through the function's MIR by hand, and
+-- is written, as in Thin: a lifetime is made, a local is lent for it by `&mut`, the callee is called, the lifetime is ended, and the local is back
+-- at the last value that the contract says; it and the answer are the result. Assumes nothing.
 use mathlib.Core.Path.{_≡_, refl, _∙_, ap, subst}
 use mathlib.Core.List.{[], _∷_, List}
 use Prim.Native.Nat.{ℕ, suc}
@@ -57,6 +59,7 @@ module _ (T : Kind) {M : Type 1} (𝓤 : URA M) (H : Heap 𝓤) (A : Atoms 𝓤)
       qed W (‵ (mem (row T) .lies d b 0) ∷ []) ∵ fpick ! (λ vs. fsplit ! $ spelt ! (row T) (Is (row T)) (shows 𝓤 H A (row T)) (vals T) (T .tells) fullShare d vs b 0 $
       move ! (1 ∷ []) $ peeks ! (row T) (Is (row T)) (shows 𝓤 H A (row T)) d (vals T d) (λ is. drop ! $ use1 W (‵ (fat fullShare (T .ty) b 0 (T .val d))) (W .laws .raw-at fullShare (T .ty) b 0 (T .val d)) $ check ! is $ done !))
 
+-- the struct, the answer, the result that holds the two, the further parameters, and the callee
 module _ (T O : Kind) (R : Two T O) (Ps : List Kind) (#callee : Name) where
   -- the locals after the parameters: what is lent, the callee's answer, the reference, and a copy of what is back
   abbrev after : ℕ → ℕ → ℕ → ℕ → List (Ty × ℕ)
@@ -93,7 +96,9 @@ module _ (T O : Kind) (R : Two T O) (Ps : List Kind) (#callee : Name) where
   abbrev stayed : Stays (by-value T O R Ps .params) (by-value-ended T O R Ps .kept)
   stayed = (stay-dropped _ kept, stays 0 Ps)
 
+  -- what the callee leaves behind the reference, and answers
   module _ (f : T .D → Curried Ps (R .D)) where
+    -- at a struct d and further arguments y
     module _ {M : Type 1} (𝓤 : URA M) (H : Heap 𝓤) (A : Atoms 𝓤) (W : Given 𝓤 H A) (d : T .D) (is : Good T d) (y : Args 0 tt Ps) (iy : Goods Ps (of 0 tt Ps y)) where
       -- the parameters' values
       abbrev z : Values Ps
@@ -168,7 +173,7 @@ module _ (T O : Kind) (R : Two T O) (Ps : List Kind) (#callee : Name) where
     walks 𝓤 H A W C Λ fm known = walked 𝓤 H A (by-value-ended T O R Ps) stayed (by-value-clauses T O R Ps f 𝓤) (WpFn 𝓤 H C Λ function) (λ κs. (vals T, spells 0 κs Ps)) (λ κs. (T .tells, tells 0 κs Ps))
         (λ κs qs bounds a g are. via 𝓤 _ (fst∗ 𝓤 _ (emp 𝓤)) (walk 𝓤 H A W (a .0) (are .0) (a .1) (goods-of 0 κs Ps (a .1) (are .1)) C Λ fm known))
 
-    -- `call_here`, whose code is this, in an environment where the callee's routine meets the contract through a reference: it meets its own, where that holds of what the callee's tells
+    -- a function `call_here` with this code, where its callee's routine meets the contract through a reference: it meets the contract c that the program states, if c follows from what the callee tells
     pub here : (c : Stated (by-value-ended T O R Ps)) → Holds T O R Ps f c → {M : Type 1} (𝓤 : URA M) (H : Heap 𝓤) (𝓜 : Model 𝓤 H) (𝓖 : GhostRules 𝓤 H) (𝓡 : Running 𝓤 H 𝓜) (γ : Env) (#call : Name)
         → Closed 𝓤 H (tables 𝓤 H 𝓜 𝓡 γ .C) (tables 𝓤 H 𝓜 𝓡 γ .Λ) #call function → (callee : Routine) → γ #callee ≡ callee → Triple 𝓤 (𝓡 .run callee) (Behind T O R Ps f 𝓤 H (𝓖 .A))
         → Meets 𝓤 H (𝓖 .A) (by-value T O R Ps) (𝓡 .run (γ #call)) (closing 𝓤 H (𝓖 .A) (by-value-ended T O R Ps) (c M 𝓤 H (𝓖 .A) (𝓜 .mem) (𝓡 .run)))

@@ -1,10 +1,14 @@
--- Any number of parameters of plain data, Ps: what a walk of a function that has them among its locals needs of them, as one entry of its context.
---     Values Ps, Goods     their values, and that each stands at its own machine value.        Curried, apply     a function of them
---     slots, keeps         in a signature of n lifetimes.        of, to       the signature's own tuple of arguments, as values, and back
+-- Any number of parameters of plain data, Ps, taken together: in a function's signature, and among its locals, where a proof that goes through the
+-- function's code by hand has them as one entry of its context.
+--     Values Ps, Goods     their values, and that each stands at its own machine value
+--     Curried, apply       a function of them, and its value at them
+--     slots, keeps         in a signature of n lifetimes
+--     of, to               the signature's own tuple of arguments, as values, and back
 --     stays, goes, fins, fits, had     at exit: nothing has to be had of them
 --     spells, tells, owned-all         on entry, and for a call: their machine values, and what they own
 --     locals, Blocks, env, past        among a function's locals, at the blocks bs: `past Ps k` is the place k after them
---     rooms, cells         their locals, empty and filled, as one entry.        alloc-all, pass-all, forget-all, free-all     the steps
+--     rooms, cells         their locals, empty and filled, as one entry
+--     alloc-all, pass-all, forget-all, free-all     the steps: they are made, filled, emptied and freed
 --     operands, reads-all  the operands of a call that passes them on, the first being the local k
 --     found                a local that lies after them
 -- The steps assume `Given`. All else assumes nothing.

@@ -1,7 +1,10 @@
--- What the laws of this crate take of a type: no type of a program stands here.
---     Kind     plain data with one machine value, seen at a function's exit as it was passed.        row, makes     its row, and that what it owns is had for nothing
---     Two      a struct of two fields, a state and an answer.        result, result-makes     likewise
---     struct-kind, enum-kind, two      those of a declared struct, of a declared enum, and of a struct that holds the two. At a type whose fields are written out the row that is made here is the type's own
+-- What the laws of this crate take of a type, for types of any program.
+--     Kind                     plain data with one machine value, seen at a function's exit as it was passed
+--     row, makes               its row, by which Rattle knows a type: how its values lie in memory and what they own; and that this is had for nothing
+--     Two                      a struct of two fields, a state and an answer
+--     result, result-makes     its row, and the same of it
+--     struct-kind, enum-kind, two     the kind of a declared struct, of a declared enum, and the struct that holds the two. At a type of a program the
+--                              row that they give is the type's own, by computation
 -- `typed` assumes `Given`. All else assumes nothing.
 use mathlib.Core.Path.{_≡_, refl, sym, _∙_, subst}
 use mathlib.Core.List.{List, [], _∷_, _++_}

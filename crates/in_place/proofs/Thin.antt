@@ -1,5 +1,10 @@
--- `fn call(d: &mut T, x: .., y: ..) -> O { let r = callee(*d, x, y); *d = r.state; r.answer }` meets its contract, for any types, any number of further parameters and any callee that meets the contract by value: a walk of its MIR, by hand. The borrow is opened and stays open; the struct is copied out of its cell and passed by value to the callee, of which the proof knows only that it meets its contract; the result's field is stored in the cell, and the borrow is closed at that field's value.
--- Assumes nothing.
+-- `fn call(d: &mut T, x: .., y: ..) -> O { let r = callee(*d, x, y); *d = r.state; r.answer }` meets its contract, for any types, any number of further
+-- parameters, and any callee that meets the contract by value. The proof goes through the function's MIR, its code as it is compiled, by hand: the
+-- borrow is opened and stays open; the struct is copied out of its cell and passed by value to the callee, of which the proof knows only that it
+-- meets its contract; the result's state is stored in the cell, and the borrow is closed at that value.
+--
+-- The steps of `walk` name the entries of their context by number, from 0 at its head. A comment in brackets lists them as they stand there, with
+-- … for one that nothing needs before the locals are freed. Assumes nothing.
 use mathlib.Core.Path.{_≡_, refl, _∙_, ap}
 use mathlib.Core.List.{[], _∷_, List}
 use Prim.Native.Nat.{ℕ, suc}
@@ -38,6 +43,7 @@ use Rattle.in_place.proofs.PlainData.{Kind, row, makes, vals, Good, Two
 use Rattle.in_place.proofs.Parameters.{Values, Curried, apply, Goods, slots, keeps, stays, goes, Args, of, to, of-to, fins, fits, spells, tells, passed, goods-of, had, owned-all, locals, past, operands, spot-past, from-later, from-start, alloc-all, pass-all, forget-all, free-all, found, reads-all}
 use Rattle.in_place.proofs.Contracts.{by-value-ended, by-value-clauses, ByValue, behind, behind-ended, behind-clauses, AnswersBehind, Stated, HoldsBehind, as-stated}
 
+-- the struct behind the reference, the answer, the callee's result that holds the two, the further parameters, and the callee
 module _ (T O : Kind) (R : Two T O) (Ps : List Kind) (#callee : Name) where
   -- the locals after the parameters: the callee's result, and the copy that it is passed
   abbrev answered : ℕ
@@ -67,12 +73,15 @@ module _ (T O : Kind) (R : Two T O) (Ps : List Kind) (#callee : Name) where
   abbrev stayed : Stays (behind T O R Ps .params) (behind-ended T O R Ps .kept)
   stayed = (stay-ref (0 ∷ []) tt (plain (λ _. row T)), stays 1 Ps)
 
+  -- what the callee hands back
   module _ (f : T .D → Curried Ps (R .D)) where
+    -- at a reference to cell o of block b, of lifetime κ and name γ, with h behind it; and at further arguments y
     module _ {M : Type 1} (𝓤 : URA M) (H : Heap 𝓤) (A : Atoms 𝓤) (W : Given 𝓤 H A) (κ : Lft) (q : Share) (b o : ℕ) (γ : GName) (h : T .D) (y : Args 1 (κ, tt) Ps) (iy : Goods Ps (of 1 (κ, tt) Ps y)) where
       -- the parameters' values
       abbrev z : Values Ps
       z = of 1 (κ, tt) Ps y
 
+      -- all arguments, and their machine values
       abbrev x : RefT (T .D) × Args 1 (κ, tt) Ps
       x = (record { ptr = (b, o); name = γ; now = h }, y)
 
@@ -86,7 +95,7 @@ module _ (T O : Kind) (R : Two T O) (Ps : List Kind) (#callee : Name) where
       abbrev Post : Val → SProp 𝓤
       Post = walkOf 𝓤 H A (behind-ended T O R Ps) stayed (behind-clauses T O R Ps f 𝓤) .post (((κ, tt), (q, tt), tt, x, at), tt)
 
-      -- what the callee is passed
+      -- all that the callee is passed
       abbrev call-at : ByValue T O R Ps f 𝓤 H A .Ghost
       call-at = ((tt, tt, tt, (h, z₀), (vals T h, valss (typesAt (slots 0 Ps) tt) (spells 0 tt Ps) z₀)), tt)
 
@@ -116,7 +125,7 @@ module _ (T O : Kind) (R : Two T O) (Ps : List Kind) (#callee : Name) where
             move ! (10 ∷ []) $ fsplit ! $ fsplit3 ! $ drop ! $ move ! (12 ∷ []) $ split ! $ move ! (2 ∷ 3 ∷ 0 ∷ []) $
             opens ! tt (row T) {h = h} b o (λ vs. spelt ! (row T) (Is (row T)) (shows 𝓤 H A (row T)) (vals T) (T .tells) fullShare h vs b o $
             move ! (1 ∷ []) $ peeks ! (row T) (Is (row T)) (shows 𝓤 H A (row T)) h (vals T h) (λ is. drop ! $
-            -- [the struct's cell; the open borrow; obs; auth; true; what the others own; the parameters' locals; the copy; …; the result; …; the reference; …; room for _0; …]
+            -- [the struct's cell; the open borrow; the value behind it as seen, `fobs`; and as held, `fauth`; true; what the further parameters own; their locals; the copy; …; the result; …; the reference; …; room for _0; …]
             assigns ! (of-opd ! (load ! (from ! (hop ! (look ! 11 refl) (stop !))) (look-raw ! 0 refl))) (found ! (spot-past 𝓤 H Ps bs (after l3 l4) 1) (stop !)) (init ! 7 refl (T .typed 𝓤 H A W h _ is .0)) $
             use0 W (raw (ByValue T O R Ps f 𝓤 H A .pre call-at)) (asked is) $
             calls-at ! fm (ByValue T O R Ps f 𝓤 H A) known call-at (and-then ! (load ! (found ! (spot-past 𝓤 H Ps bs (after l3 l4) 1) (stop !)) (look ! 8 refl)) (reads-all ! 7 0 tt 2 Ps bs z (from-later 𝓤 H _ _ 1 Ps bs (from-later 𝓤 H _ _ 0 Ps bs (from-start 𝓤 H Ps bs (after l3 l4)))) refl)) (λ u.
@@ -139,7 +148,7 @@ module _ (T O : Kind) (R : Two T O) (Ps : List Kind) (#callee : Name) where
     walks 𝓤 H A W C Λ fm known = walked 𝓤 H A (behind-ended T O R Ps) stayed (behind-clauses T O R Ps f 𝓤) (WpFn 𝓤 H C Λ function) (λ κs. (ptr-vals, spells 1 κs Ps)) (λ κs. (mut-tells (named 0) (κs .0) (row T), tells 1 κs Ps))
         (λ κs qs bounds a g are. via 𝓤 _ (fst∗ 𝓤 _ (emp 𝓤)) (walk 𝓤 H A W (κs .0) (qs .0) (a .0 .ptr .0) (a .0 .ptr .1) (a .0 .name) (a .0 .now) (a .1) (goods-of 1 κs Ps (a .1) (are .1)) C Λ fm known))
 
-    -- `call`, whose code is this, in an environment where the callee's routine meets the contract by value: it meets its own, where that holds of what the callee's tells
+    -- a function `call` with this code, where its callee's routine meets the contract by value: it meets the contract c that the program states, if c follows from what the callee tells
     pub thin : (c : Stated (behind-ended T O R Ps)) → HoldsBehind T O R Ps f c → {M : Type 1} (𝓤 : URA M) (H : Heap 𝓤) (𝓜 : Model 𝓤 H) (𝓖 : GhostRules 𝓤 H) (𝓡 : Running 𝓤 H 𝓜) (γ : Env) (#call : Name)
         → Closed 𝓤 H (tables 𝓤 H 𝓜 𝓡 γ .C) (tables 𝓤 H 𝓜 𝓡 γ .Λ) #call function → (callee : Routine) → γ #callee ≡ callee → Triple 𝓤 (𝓡 .run callee) (ByValue T O R Ps f 𝓤 H (𝓖 .A))
         → Meets 𝓤 H (𝓖 .A) (behind T O R Ps) (𝓡 .run (γ #call)) (closing 𝓤 H (𝓖 .A) (behind-ended T O R Ps) (c M 𝓤 H (𝓖 .A) (𝓜 .mem) (𝓡 .run)))
