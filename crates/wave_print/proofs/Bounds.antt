@@ -1,12 +1,12 @@
 -- The bounds of a mask's values: those of its lowest and its highest offset. Assumes nothing.
 use mathlib.Core.Path.{_≡_, sym, ap, ap₂, _∙_}
-use mathlib.Core.Bool.{Bool, true, false}
+use mathlib.Core.Bool.{Bool, true}
 use mathlib.Core.List.{[], _∷_, _++_}
-use Prim.Native.Nat.{ℕ, _<_}
+use Prim.Native.Nat.{ℕ}
 use native.Mathlib.Omega.{arith}
 use lib.Dec.{eqb}
 use lib.IntN.{ℤ, pos, _+ℤ_}
-use borrow.Author.Tests.{eqb-true, eqb-false}
+use borrow.Author.Tests.{eqb-true}
 use Rattle.decimal.specs.Decimal.{decimal}
 use Rattle.mask.specs.Bit.{Lowest, Highest}
 use Rattle.mask.specs.Val.{val}
@@ -26,9 +26,6 @@ use Rattle.wave_print.specs.Print.{spaced, boundsText}
 pub none : (lo : ℤ) (m : Mask) {b : Bool} → b ≡ eqb (val m) 0 → b ≡ true → boundsText (valuesOf lo m) ≡ 32 ∷ 45 ∷ 32 ∷ 45 ∷ []
 unfolding boundsText
 none lo m e t = ap boundsText (none-values lo m (eqb-true (val m) 0 (sym e ∙ t)))
-
-pub some : (m : Mask) {b : Bool} → b ≡ eqb (val m) 0 → b ≡ false → 0 < val m
-some m e t = let h = eqb-false (val m) 0 (sym e ∙ t) in omega arith
 
 ends-text : (v : Chutes) (a b : ℤ) → Ascending v → firstOf v ≡ at a → lastOf v ≡ at b → boundsText v ≡ spaced (decimal a) ++ spaced (decimal b)
 unfolding boundsText

@@ -25,10 +25,6 @@ use Rattle.wave_lists.specs.Listed.{listedOf}
 use Rattle.wave_lists.specs.declared.Listed.{Listed}
 use Rattle.wave_lists.proofs.Lists.{take-least, lists-on}
 
--- how `search` finds that an array has all its cells
-pub all-closings : (Y : Type 0) (g : Closing → Y) (l : List Closing) (n : ℕ) → length (map g l) ≡ n → length l ≡ n
-all-closings Y g l n e = sym (length-map l g) ∙ e
-
 -- a batch is its closings one after another
 batch-each : (ks : List Closing) (b : Board) → closedAll ks b ≡ each closing ks b
 unfolding each

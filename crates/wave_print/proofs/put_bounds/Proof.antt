@@ -12,11 +12,11 @@ use lib.ListN.{length, length-set}
 use Rattle.decimal.specs.Decimal.{decimal}
 use Rattle.decimal.specs.Put.{putOf}
 use Rattle.domain.specs.Set.{valuesOf}
-use Rattle.domain_text.proofs.Values.{again, read-value}
+use Rattle.domain_text.proofs.Values.{some, again, read-value}
 use Rattle.offset.specs.Wide.{read32}
 use Rattle.wave_print.specs.Print.{spaced, boundsText}
 use Rattle.wave_print.proofs.Pieces.{first-room, rest-room, then, four}
-use Rattle.wave_print.proofs.Bounds.{none, some, bounds}
+use Rattle.wave_print.proofs.Bounds.{none, bounds}
 use Rattle.wave_print.proofs.put_bounds.Statement.{statement}
 use Rattle.wave_print.proofs.put_bounds.Tie as tie
 

@@ -3,7 +3,8 @@ use mathlib.Core.Path.{_≡_}
 use lib.ListN.{length}
 use Rattle.wave_enter.proofs.Registers.{all-rows}
 use Rattle.wave_lists.proofs.Lists.{all-spans}
-use Rattle.wave_run.proofs.Waves.{all-closings, fit, sound, ran-is}
+use Rattle.batch.proofs.TallyLaws.{all-closings}
+use Rattle.wave_run.proofs.Waves.{fit, sound, ran-is}
 use borrow.Author.Needs.{needs}
 use Rattle.wave_run.proofs.run.Statement.{statement}
 use Rattle.wave_run.proofs.run.Tie as tie
