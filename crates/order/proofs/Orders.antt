@@ -74,9 +74,6 @@ module _ (ind val : List ℕ) (n : ℕ) where
   unfolding inverseB
   of-inverse I = all-of (backAt ind val n) n (λ i h. simp (lt-ltb _ _ (I .ind-lt i h), lt-ltb _ _ (I .val-lt i h), eq-eqb _ _ (I .val-ind i h), eq-eqb _ _ (I .ind-val i h)))
 
-  pub back-yes : (k : ℕ) → getD ind k 0 < n → getD val k 0 < n → getD val (getD ind k 0) 0 ≡ k → getD ind (getD val k 0) 0 ≡ k → backAt ind val n k ≡ true
-  back-yes k a b c d = simp (lt-ltb _ _ a, lt-ltb _ _ b, eq-eqb _ _ c, eq-eqb _ _ d)
-
 -- ---- a test that cannot pass has failed
 pub not-yes : (b : Bool) → (b ≡ true → ⊥) → b ≡ false
 not-yes true f = absurd (f refl)
@@ -116,16 +113,7 @@ module _ (ind val : List ℕ) (n : ℕ) (I : Inverse ind val n) (hi : n ≤ leng
   pub ind-inj : (a b : ℕ) → a < n → b < n → getD ind a 0 ≡ getD ind b 0 → a ≡ b
   ind-inj a b ha hb e = sym (I .val-ind a ha) ∙ ap (λ (k : ℕ). getD val k 0) e ∙ I .val-ind b hb
 
-  pub val-inj : (a b : ℕ) → a < n → b < n → getD val a 0 ≡ getD val b 0 → a ≡ b
-  val-inj a b ha hb e = sym (I .ind-val a ha) ∙ ap (λ (k : ℕ). getD ind k 0) e ∙ I .ind-val b hb
-
 module _ (ind val : List ℕ) (n : ℕ) (I : Inverse ind val n) (hi : n ≤ length ind) (hv : n ≤ length val) (a b : ℕ) (ha : a < n) (hb : b < n) where
-  abbrev ind' : List ℕ
-  ind' = swapped a b ind
-
-  abbrev val' : List ℕ
-  val' = swapped (getD ind a 0) (getD ind b 0) val
-
   -- where each value stands after the exchange
   pub ind-a : getD (swapped a b ind) a 0 ≡ getD ind b 0
   ind-a = swapped-first a b ind (omega arith) (omega arith)

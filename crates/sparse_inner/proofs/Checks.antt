@@ -126,7 +126,7 @@ module _ (f : Full) where
   sound-yes W = and-both (far && inv) fit (and-both far inv (W .universe) (of-inverse (f .ind) (f .val) (f .set .n) (W .inverse))) (of-fits (f .ind) (f .val) (f .set .n) (stateOf (f .set)) (W .inverse) (record { within = W .within; bounds = W .bounds }))
 
 -- ---- verdicts
-never : {A : Type 0} {why : _} → Refused why ≡ Fine → A
+pub never : {A : Type 0} {why : _} → Refused why ≡ Fine → A
 never e = absurd (let z : _≡_ {A = ℕ} 0 1 = cc in omega arith)
 
 -- what three tests say together

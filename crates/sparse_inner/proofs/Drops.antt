@@ -72,11 +72,6 @@ true-bounds ind n size k h =
       most = λ o x. H .most o (x .in-universe) (of-held ind n size o x);
     }
 
--- two pairs of true bounds are the same pair
-pub bounds-same : (ind : List ℕ) (n size a b c d : ℕ) → Bounds ind n size a b → Bounds ind n size c d → (a ≡ c) × (b ≡ d)
-bounds-same ind n size a b c d x y =
-    (omega (arith, x .least c (y .min-held), y .least a (x .min-held)), omega (arith, x .most d (y .max-held), y .most b (x .max-held)))
-
 -- ---- a removal leaves a well-formed set
 module _ (s : Sparse) (ind val : List ℕ) (W : Well s ind val) (o : ℕ) (H : Held ind (s .n) (s .size) o) where
   abbrev ind₁ : List ℕ

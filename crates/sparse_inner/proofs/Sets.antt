@@ -147,9 +147,6 @@ module _ (ind : List ℕ) (n size old r : ℕ) where
 
 -- ---- dropping a held offset o: it is exchanged with the last held cell, and the size falls by one
 module _ (s : Sparse) (ind val : List ℕ) (W : Well s ind val) (o : ℕ) (H : Held ind (s .n) (s .size) o) where
-  abbrev pub lst : ℕ
-  lst = getD val (s .size - 1) 0
-
   pub some : 0 < s .size
   some = omega (arith, H .in-set)
 

@@ -19,6 +19,7 @@ use Rattle.order.proofs.Orders.{and-left, and-right}
 use Rattle.rules.specs.declared.Refusal.the-variants.{TooWide, Short}
 use Rattle.sparse_inner.specs.declared.Verdict.the-variants.{Fine, Refused}
 use Rattle.sparse_inner.specs.Set.{Held, WellF, widest}
+use Rattle.sparse_inner.proofs.Checks.{never}
 use Rattle.ends.specs.Ends.{smallestOf, largestOf}
 use Rattle.rules.specs.Sets.{Chutes}
 use Rattle.sparse_make.specs.declared.Made.the-variants.{Set}
@@ -28,9 +29,6 @@ pub record Room (n : ℕ) (ind val : List ℕ) : Type 0 where
   pub narrow : n ≤ widest
   pub in-ind : n ≤ length ind
   pub in-val : n ≤ length val
-
-never : {A : Type 0} {why : _} → Refused why ≡ Fine → A
-never e = absurd (let z : _≡_ {A = ℕ} 0 1 = cc in omega arith)
 
 pub room-of : (n : ℕ) (ind val : List ℕ) → roomFor n ind val ≡ Fine → Room n ind val
 unfolding roomFor
