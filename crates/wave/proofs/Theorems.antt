@@ -27,6 +27,8 @@ use Rattle.sheet.specs.Sheet.{readSheet}
 use Rattle.sheet.specs.Write.{GoodDestination, Good}
 use Rattle.sheet_laws.proofs.Only.{only-good}
 use Rattle.sheet_laws.proofs.Places.{fault-place}
+use Rattle.sheet_laws.specs.First.{First}
+use Rattle.sheet_laws.proofs.FaultFirst.{first-told}
 use Rattle.wave_form.specs.Wave.{boardOf, linesOf, lineBy, openingOf, callsOf, ranOf, noLine}
 use Rattle.wave_form.proofs.Theorems.{board-view, board-good, lines-answers}
 use Rattle.wave_form.proofs.Back.{filled-front}
@@ -65,6 +67,10 @@ told-bad TooLong p = refl
 pub prints-bad : (bytes : List ℕ) (why : Fault) (p : ℕ) → readSheet bytes ≡ fault why p → waveText bytes ≡ refusedText 15 p
 unfolding waveText
 prints-bad bytes why p q = ap toldOf q ∙ told-bad why p
+
+-- the place that is printed, with no word of a reader: the first at which the bytes can't be a good sheet's text
+pub prints-first : (bytes : List ℕ) (p : ℕ) → length bytes ≤ 32768 → First bytes p → waveText bytes ≡ refusedText 15 p
+prints-first bytes p h f = let k = first-told bytes p h f in prints-bad bytes (k .0) p (k .1)
 
 -- ---- how long it is
 
