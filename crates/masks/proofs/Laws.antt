@@ -6,7 +6,7 @@ use native.Mathlib.Omega.{arith}
 use lib.ListN.{length, getD, set, length-set}
 use lib.Seq.{getD-set-same, getD-set-other, ext-getD}
 use Rattle.mask.specs.declared.Mask.{Mask}
-use Rattle.masks.specs.Cells.{Room, maskAt, putAt, Same}
+use Rattle.masks.specs.Cells.{Room, maskAt, putAt}
 
 -- an array of 128 words has room for 64 masks
 pub room-of : (ws : List ℕ) → length ws ≡ 128 → Room ws
@@ -32,9 +32,6 @@ at-other ws i j m n = λ t. record {
   lo = (getD-set-other (set ws (2 * i) (m .lo)) (2 * i + 1) (2 * j) (m .hi) 0 (λ e. omega arith) ∙ getD-set-other ws (2 * i) (2 * j) (m .lo) 0 (λ e. n (omega arith))) t;
   hi = (getD-set-other (set ws (2 * i) (m .lo)) (2 * i + 1) (2 * j + 1) (m .hi) 0 (λ e. n (omega arith)) ∙ getD-set-other ws (2 * i) (2 * j + 1) (m .lo) 0 (λ e. omega arith)) t;
 }
-
-pub same-put : (n : ℕ) (ws vs : List ℕ) (i : ℕ) (m : Mask) → i < n → Same n ws vs → Same n (putAt ws i m) vs
-same-put n ws vs i m h s p l = at-other ws i p m (λ e. omega arith) ∙ s p l
 
 -- an array is given by its masks
 pub same-masks : (ws vs : List ℕ) → Room ws → Room vs → ((p : ℕ) → maskAt ws p ≡ maskAt vs p) → ws ≡ vs
