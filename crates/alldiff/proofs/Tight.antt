@@ -13,16 +13,14 @@ use lib.ListN.{length, take}
 use lib.Seq.{length-take-le}
 use borrow.Author.Tests.{eqb-true, eqb-false, eq-eqb, ne-eqb}
 use Rattle.mask.specs.Sets.{ones-none}
-use Rattle.rules.specs.Sets.{Chutes, has, keep, strike, union}
+use Rattle.rules.specs.Sets.{Chutes, has, strike, union}
 use Rattle.rules.specs.Pass.{Places, pick, still, sweep, tight, present}
 use Rattle.rules.specs.Table.{bits}
+use Rattle.sweep.proofs.Values.{strike-same}
 use Rattle.alldiff.specs.Gather.{gathered, Holds}
 use Rattle.alldiff.proofs.Gathers.{gathered-has, gathered-size}
 
 -- ---- a sweep goes by which values are struck
-
-strike-same : (u w s : Chutes) → ((x : ℤ) → has x u ≡ has x w) → strike u s ≡ strike w s
-strike-same u w s h = λ i. keep (λ x. not (h x i)) s
 
 pub sweep-same : (m : Places) (u w : Chutes) (ds : List Chutes) → ((x : ℤ) → has x u ≡ has x w) → sweep m u ds ≡ sweep m w ds
 sweep-same [] u w ds h = refl

@@ -20,7 +20,7 @@ use Rattle.rules.proofs.SetLaws.{has-cons, has-head, has-append, has-strike, ha
 use Rattle.rules.proofs.Loops.{only}
 use Rattle.domain.proofs.Ends.{size-ones}
 use Rattle.masks.specs.Cells.{maskAt}
-use Rattle.sweep.proofs.Values.{strike-more, strike-nothing, lost-same}
+use Rattle.sweep.proofs.Values.{strike-more, strike-same, strike-nothing, lost-same}
 use Rattle.alldiff.proofs.StepOne.{places, visit, step1-places, visit-idle, visit-one}
 use Rattle.sweep.specs.Listed.{listed, domainAt, assigned}
 use Rattle.sweep.proofs.Turns.{listed-length, listed-at, assigned-length, assigned-at, only-length, only-in, only-out}
@@ -179,17 +179,6 @@ without-at [] u (d ∷ ds) q e = absurd (omega arith)
 without-at (b ∷ m) u [] q e = absurd (omega arith)
 without-at (b ∷ m) u (d ∷ ds) zero e = refl
 without-at (b ∷ m) u (d ∷ ds) (suc q) e = without-at m u ds q (omega arith)
-
--- members of u and of w are the same: so is what is left
-strike-same : (u w s : Chutes) → ((x : ℤ) → has x u ≡ has x w) → strike u s ≡ strike w s
-strike-same u w [] f = refl
-strike-same u w (x ∷ s) f = go (has x u) (has x w) (f x) (strike-same u w s f)
-  where
-    go : (a b : Bool) → a ≡ b → strike u s ≡ strike w s → cond (not a) (x ∷ strike u s) (strike u s) ≡ cond (not b) (x ∷ strike w s) (strike w s)
-    go true true e ih = ih
-    go true false e ih = absurd (true≢false e)
-    go false true e ih = absurd (true≢false (sym e))
-    go false false e ih = ap {B = Chutes} (λ l. x ∷ l) ih
 
 without-same : (m : Places) (u w : Chutes) (ds : List Chutes) → ((x : ℤ) → has x u ≡ has x w) → without m u ds ≡ without m w ds
 without-same [] u w ds f = refl

@@ -109,6 +109,10 @@ strike-more v u s = keep-keep (λ x. not (has x (v ∷ []))) (λ x. not (has x u
     split true b = refl
     split false b = refl
 
+-- it goes by which values are struck
+pub strike-same : (u w s : Chutes) → ((x : ℤ) → has x u ≡ has x w) → strike u s ≡ strike w s
+strike-same u w s h = λ i. keep (λ x. not (h x i)) s
+
 pub strike-nothing : (s : Chutes) → strike [] s ≡ s
 strike-nothing s = keep-all (λ x. not (has x [])) s (λ x h. tt)
 
