@@ -8,7 +8,6 @@ use lib.ListN.{length}
 use borrow.Author.Tests.{le-leb, lt-leb}
 use Rattle.rules.specs.Sets.{Chutes}
 use Rattle.rules.specs.Pass.{Swept, still, step1, step2, pass, raises}
-use Rattle.rules.proofs.Tests.{or-false}
 
 -- the two steps together
 abbrev joint : Swept → Swept → Swept
@@ -39,15 +38,8 @@ module _ (ds : List Chutes) where
     stopped e = steps ∙ ap (λ (b : Bool). cond b (joint one (step2 (one .domains))) one) e
 
     module _ (on : one .consistent ≡ true) (two : Swept) (second : two ≡ step2 (one .domains)) where
-      both : pass ds ≡ joint one two
+      pub both : pass ds ≡ joint one two
       both = steps ∙ ap (λ (b : Bool). cond b (joint one (step2 (one .domains))) one) on ∙ ap (joint one) (sym second)
-
-      -- a stop in step 2: `changed` tells of step 1 only
-      pub stopped2 : two .consistent ≡ false → pass ds ≡ record { domains = two .domains; changed = one .changed; consistent = false }
-      stopped2 e = both ∙ rw (e, or-false)
-
-      pub ran : two .consistent ≡ true → pass ds ≡ record { domains = two .domains; changed = one .changed || two .changed; consistent = true }
-      ran e = both ∙ rw e
 
 -- a list of more than 6 ids has no second step
 pub long-list : (ds : List Chutes) → 6 < length ds → step2 ds ≡ still ds

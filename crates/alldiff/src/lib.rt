@@ -312,16 +312,10 @@ pub fn spread(mins: &[i32; 64], ms: &mut Masks, n: usize) -> Passed
         };
     }
     let two = step_two(mins, ms, n);
-    if !two.consistent {
-        return Passed {
-            changed: one.changed,
-            consistent: false,
-            raised,
-        };
-    }
+    let changed = raised | (two.consistent & two.changed);
     Passed {
-        changed: raised | two.changed,
-        consistent: true,
-        raised: one.changed,
+        changed,
+        consistent: two.consistent,
+        raised,
     }
 }

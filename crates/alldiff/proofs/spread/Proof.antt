@@ -9,7 +9,7 @@ use borrow.Author.Tests.{not-true, not-false}
 use Rattle.rules.specs.Pass.{still}
 use Rattle.sweep.specs.Listed.{listed, swept}
 use Rattle.sweep.proofs.Turns.{listed-length, left-none, left-then}
-use Rattle.alldiff.proofs.Whole.{short, raised, stopped, stopped2, ran, long-list}
+use Rattle.alldiff.proofs.Whole.{short, raised, stopped, both, long-list}
 use borrow.Author.Needs.{needs}
 use Rattle.alldiff.proofs.spread.Statement.{statement}
 use Rattle.alldiff.proofs.spread.Tie as tie
@@ -51,7 +51,7 @@ returns-3 c =
     let e = not-false (r .result .consistent) (c .before .if2 .left) in
     let m : 6 < length es = omega (arith, listed-length (a .mins .now) (r .last .1 .0) (a .n)) in (
       r .ensures .0,
-      sym (ran ds l one (r .ensures .1) e (still es) (sym (long-list es m)) refl ∙ ap (λ (b : Bool). record { domains = es; changed = b; consistent = true }) (or-false (r .result .changed))),
+      sym (both ds l one (r .ensures .1) e (still es) (sym (long-list es m)) ∙ ap (λ (b : Bool). record { domains = es; changed = b; consistent = true }) (or-false (r .result .changed))),
       sym (raised ds l one (r .ensures .1)),
     )
 
@@ -64,7 +64,7 @@ step-two-requires c κs =
 
 returns-4 : tie.Need-returns-4
 returns-4 c =
-    let t = c .before .before in
+    let t = c .before in
     let o = t .before .before .before .before .before in
     let a = o .before .before .before .args in
     let r = o .step-one in
@@ -74,27 +74,11 @@ returns-4 c =
     let two = swept (t .step-two .result) (listed (a .mins .now) (t .step-two .last .1 .0) (a .n)) in
     let e = not-false (r .result .consistent) (t .before .before .before .if2 .left) in (
       left-then (a .n) (a .ms .now) (r .last .1 .0) (t .step-two .last .1 .0) (r .ensures .0) (t .step-two .ensures .0),
-      sym (stopped2 ds l one (r .ensures .1) e two (t .step-two .ensures .1) (not-true (t .step-two .result .consistent) (c .if4 .taken))),
-      sym (raised ds l one (r .ensures .1)),
-    )
-
-returns-5 : tie.Need-returns-5
-returns-5 c =
-    let t = c .before .before .before in
-    let o = t .before .before .before .before .before in
-    let a = o .before .before .before .args in
-    let r = o .step-one in
-    let ds = listed (a .mins .now) (a .ms .now) (a .n) in
-    let l : 1 < length ds = omega (arith, listed-length (a .mins .now) (a .ms .now) (a .n)) in
-    let one = swept (r .result) (listed (a .mins .now) (r .last .1 .0) (a .n)) in
-    let two = swept (t .step-two .result) (listed (a .mins .now) (t .step-two .last .1 .0) (a .n)) in
-    let e = not-false (r .result .consistent) (t .before .before .before .if2 .left) in (
-      left-then (a .n) (a .ms .now) (r .last .1 .0) (t .step-two .last .1 .0) (r .ensures .0) (t .step-two .ensures .0),
-      sym (ran ds l one (r .ensures .1) e two (t .step-two .ensures .1) (not-false (t .step-two .result .consistent) (c .before .if4 .left))),
+      sym (both ds l one (r .ensures .1) e two (t .step-two .ensures .1)),
       sym (raised ds l one (r .ensures .1)),
     )
 
 pub spread-spec : {M : Type 1} → statement M
 spread-spec =
     tie.close
-    (tie.spec returns step-one-requires returns-2 returns-3 step-two-requires returns-4 returns-5)
+    (tie.spec returns step-one-requires returns-2 returns-3 step-two-requires returns-4)
