@@ -242,6 +242,10 @@ module _ {A : Type 0} (most : ℕ) (line : Reader A) (w : A → List ℕ) (P : A
       (reads-natural 0 most (length l) 10 (omega arith) h stop-line)
       (reads-each (λ j. line) (λ n a. w a) P (λ n a. reads a) l g)
 
+-- three texts in a row
+three : (A B C : List ℕ) → length (A ++ (B ++ (C ++ []))) ≡ length A + length B + length C
+three A B C = omega (arith, length-append A (B ++ (C ++ [])), length-append B (C ++ []), length-append C [])
+
 sheet-back : (sh : Sheet) → Good sh → length (writeSheet sh) ≤ 32768 → readSheet (writeSheet sh) ≡ got sh (length (writeSheet sh))
 unfolding writeSheet
 sheet-back sh g h =
@@ -255,7 +259,7 @@ sheet-back sh g h =
     let a1 : section 64 destination s 0 ≡ got (sh .destinations) (length D) = r1 [] (C ++ (L ++ [])) ∙ ap (λ (y : ℕ). got (sh .destinations) y) (zero-add (length D)) in
     let a2 : section 256 closing s (length D) ≡ got (sh .closings) (length D + length C) = r2 D (L ++ []) in
     let n : length D + length C ≡ length (D ++ C) = sym (length-append D C) in
-    let k : length (D ++ C) + length L ≡ length s = omega (arith, length-append D C, length-append D (C ++ (L ++ [])), length-append C (L ++ []), length-append L []) in
+    let k : length (D ++ C) + length L ≡ length s = omega (arith, length-append D C, three D C L) in
     let a3 : section 16 list s (length D + length C) ≡ got (sh .lists) (length s) =
     ap₂ (λ (x : List ℕ) (y : ℕ). section 16 list x y) (sym (append-assoc D C (L ++ []))) n ∙ r3 (D ++ C) [] ∙ ap (λ (y : ℕ). got (sh .lists) y) k in
     sheet-read s h (sh .destinations) (length D) a1 (sh .closings) (length D + length C) a2 (sh .lists) (length s) a3 (omega arith)
@@ -291,9 +295,7 @@ destination-width d g =
     let C : List ℕ = writeField (d .max .0) 10 in
     omega (
       arith,
-      length-append A (B ++ (C ++ [])),
-      length-append B (C ++ []),
-      length-append C [],
+      three A B C,
       id-width 9 (d .id .0) 32 (omega (arith, g .id)),
       value-width (d .min .0) 32 (g .min),
       value-width (d .max .0) 10 (g .max),
@@ -308,9 +310,7 @@ closing-width c g =
     let C : List ℕ = writeField (c .value .0) 10 in
     omega (
       arith,
-      length-append A (B ++ (C ++ [])),
-      length-append B (C ++ []),
-      length-append C [],
+      three A B C,
       id-width 0 k 32 (omega (arith, kind-high (c .kind))),
       id-width 9 (c .id .0) 32 (omega (arith, g .id)),
       value-width (c .value .0) 10 (g .value),
@@ -342,9 +342,7 @@ sheet-width sh g =
     let L : List ℕ = writeSection writeList (sh .lists) in
     omega (
       arith,
-      length-append D (C ++ (L ++ [])),
-      length-append C (L ++ []),
-      length-append L [],
+      three D C L,
       g .few .destinations,
       g .few .closings,
       g .few .lists,
