@@ -5,12 +5,13 @@ use Prim.Native.Nat.{ℕ, _+_, _-_, _^_, _≤_, _<_}
 use native.Mathlib.Omega.{arith}
 use lib.Dec.{T, eqb, leb, ltb}
 use lib.IntN.{pos, _+ℤ_}
-use borrow.Author.Tests.{eqb-true, leb-true, ltb-true, eq-eqb, ne-eqb}
+use lib.Signed.{leZ}
+use borrow.Author.Tests.{eqb-true, leb-true, ltb-true, ltb-false, lt-ltb, eq-eqb, ne-eqb}
 use Rattle.mask.specs.Bit.{bit}
 use Rattle.mask.specs.Val.{val, offsets, Fit, mask-eq}
 use Rattle.mask.specs.Sets.{In, in-lt}
 use Rattle.mask.specs.declared.Mask.{Mask}
-use Rattle.offset.specs.Universe.{place-value, value-place}
+use Rattle.offset.specs.Universe.{place-value, value-place, place-range}
 use Rattle.rules.specs.Sets.{Chutes, has}
 use Rattle.rules.proofs.Tests.{and-left, and-right, is-true, is-false, true-is}
 use Rattle.rules.specs.declared.Value.{Value}
@@ -85,6 +86,21 @@ universe-outside d v h = is-false (has (v .0) (universe d)) (λ t. no (universe-
   where
     no : placeIn d v < width d → ⊥
     no l = omega arith
+
+-- by what is told of a value: whether the universe has it
+module _ (d : BitDomain) (v : Value) {b : Bool} (e : b ≡ ltb (placeIn d v) (width d)) where
+  pub spanned : b ≡ true → placeIn d v < width d
+  spanned t = ltb-true _ _ (sym e ∙ t)
+
+  pub unspanned : b ≡ false → width d ≤ placeIn d v
+  unspanned t = ltb-false _ _ (sym e ∙ t)
+
+-- a value of the universe doesn't stand before its smallest
+pub not-before : (d : BitDomain) (v : Value) → placeIn d v < width d → leZ (d .min) (v .0) ≡ true
+not-before d v h =
+    let low = leZ (d .min) (v .0) in
+    let high = leZ (v .0) (d .max) in
+    is-true low (and-left low high (true-is (place-range (d .min) (d .max) (v .0) ∙ lt-ltb _ _ h)))
 
 -- ---- the same universe with another mask
 

@@ -3,6 +3,7 @@ ghost use mathlib.Core.Path.{_≡_};
 ghost use mathlib.Core.Bool.{true, not, _&&_};
 ghost use mathlib.Core.List.{[]};
 ghost use Prim.Native.Nat.{_<_};
+ghost use lib.Dec.{ltb};
 ghost use lib.IntN.{pos, _+ℤ_};
 ghost use Rattle.rules.specs.Sets.{has, keep};
 ghost use Rattle.rules.specs.Board.{leaves, remove, assign, below, above};
@@ -47,12 +48,19 @@ pub fn is_well(d: BitDomain) -> bool
     is_pair(d) && mask::is_none(d.mask)
 }
 
-// Where a value stands: the universe's width where it stands outside.
-pub fn place(d: BitDomain, v: Value) -> usize
-    requires { ⌜ well d ≡ true ⌝ }
+// Whether the universe has v.
+fn spans(d: BitDomain, v: Value) -> bool
+    ensures { λ r. ⌜ r ≡ ltb (placeIn d v) (width d) ⌝ }
+{
+    offset::is_within(v.0, d.min, d.max)
+}
+
+// Where a value of the universe stands.
+fn place(d: BitDomain, v: Value) -> usize
+    requires { ⌜ placeIn d v < width d ⌝ }
     ensures { λ r. ⌜ r ≡ placeIn d v ⌝ }
 {
-    offset::place(v.0, d.min, width(d))
+    offset::from(v.0, d.min)
 }
 
 // The value at an offset of the universe.
@@ -77,11 +85,10 @@ pub fn holds(d: BitDomain, v: Value) -> bool
     requires { ⌜ well d ≡ true ⌝ }
     ensures { λ r. ⌜ r ≡ has (v .0) (setOf d) ⌝ }
 {
-    let k = place(d, v);
-    if width(d) <= k {
-        return false;
+    if spans(d, v) {
+        return mask::has(d.mask, place(d, v));
     }
-    mask::has(d.mask, k)
+    false
 }
 
 // With the value v, where the universe has it.
@@ -89,11 +96,10 @@ pub fn including(d: BitDomain, v: Value) -> BitDomain
     requires { ⌜ well d ≡ true ⌝ }
     ensures { λ r. ⌜ r ≡ holding d (including d v) ⌝ }
 {
-    let k = place(d, v);
-    if width(d) <= k {
-        return d;
+    if spans(d, v) {
+        return with_mask(d, mask::with(d.mask, place(d, v)));
     }
-    with_mask(d, mask::with(d.mask, k))
+    d
 }
 
 // What the closings by v leave: all but v; v alone; the values from v on; those up to v.
@@ -101,22 +107,20 @@ pub fn without(d: BitDomain, v: Value) -> BitDomain
     requires { ⌜ well d ≡ true ⌝ }
     ensures { λ r. ⌜ r ≡ holding d (keep (leaves remove (v .0)) (setOf d)) ⌝ }
 {
-    let k = place(d, v);
-    if width(d) <= k {
-        return d;
+    if spans(d, v) {
+        return with_mask(d, mask::without(d.mask, place(d, v)));
     }
-    with_mask(d, mask::without(d.mask, k))
+    d
 }
 
 pub fn only(d: BitDomain, v: Value) -> BitDomain
     requires { ⌜ well d ≡ true ⌝ }
     ensures { λ r. ⌜ r ≡ holding d (keep (leaves assign (v .0)) (setOf d)) ⌝ }
 {
-    let k = place(d, v);
-    if width(d) <= k {
-        return with_mask(d, mask::empty());
+    if spans(d, v) {
+        return with_mask(d, mask::and(d.mask, mask::only(place(d, v))));
     }
-    with_mask(d, mask::and(d.mask, mask::only(k)))
+    with_mask(d, mask::empty())
 }
 
 pub fn from(d: BitDomain, v: Value) -> BitDomain
@@ -140,11 +144,10 @@ pub fn admits(d: BitDomain, v: Value) -> bool
     requires { ⌜ well d ≡ true ⌝ }
     ensures { λ r. ⌜ r ≡ has (v .0) (universe d) && not (has (v .0) (setOf d)) ⌝ }
 {
-    let k = place(d, v);
-    if width(d) <= k {
-        return false;
+    if spans(d, v) {
+        return !mask::has(d.mask, place(d, v));
     }
-    !mask::has(d.mask, k)
+    false
 }
 
 // Nothing held.

@@ -111,13 +111,6 @@ with-word ws i j k e hj hi h =
     ap (λ (x : ℕ). valueOf (set ws i (bitOr (getD ws i 0) x))) (shl-one j hj)
     ∙ with-words ws i j hj hi h ∙ ap (λ (x : ℕ). bitOr (valueOf ws) (2 ^ x)) e
 
-pub without-word : (ws : List ℕ) (i j k : ℕ) → i * 64 + j ≡ k → j < 64 → i < length ws → Words ws
-    → valueOf (set ws i (bitAnd (getD ws i 0) ((2 ^ 64 - 1) - (1 * 2 ^ j) % 2 ^ 64))) ≡ bitMinus (valueOf ws) (2 ^ k)
-without-word ws i j k e hj hi h =
-    ap (λ (x : ℕ). valueOf (set ws i (bitAnd (getD ws i 0) ((2 ^ 64 - 1) - x)))) (shl-one j hj)
-    ∙ ap (λ (x : ℕ). valueOf (set ws i x)) (and-not 64 (getD ws i 0) (2 ^ j) (word-lt ws i h) (pow-lt hj))
-    ∙ without-words ws i j hj hi h ∙ ap (λ (x : ℕ). bitMinus (valueOf ws) (2 ^ x)) e
-
 -- `a & !b`, word by word
 abbrev pub andNot : ℕ → ℕ → ℕ
 andNot a b = bitAnd a ((2 ^ 64 - 1) - b)

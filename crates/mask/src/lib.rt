@@ -167,8 +167,8 @@ pub fn has(m: Mask, k: usize) -> bool
     (word(m, k / 64) >> j) & 1 == 1
 }
 
-// m with k; k alone; m without k.
-pub fn with(m: Mask, k: usize) -> Mask
+// m with the bit of k set, in its word.
+fn mark(m: Mask, k: usize) -> Mask
     requires { ⌜ k < offsets ⌝ }
     ensures { λ r. ⌜ val r ≡ bitOr (val m) (2 ^ k) ⌝ }
 {
@@ -178,21 +178,27 @@ pub fn with(m: Mask, k: usize) -> Mask
     set_word(m, i, w | (1u64 << j))
 }
 
+// k alone; m with k; m without k. Of a set in which much is changed in turn, the words don't wait for the choice of k's word: that is made in
+// the set of k alone.
 pub fn only(k: usize) -> Mask
     requires { ⌜ k < offsets ⌝ }
     ensures { λ r. ⌜ val r ≡ 2 ^ k ⌝ }
 {
-    with(empty(), k)
+    mark(empty(), k)
+}
+
+pub fn with(m: Mask, k: usize) -> Mask
+    requires { ⌜ k < offsets ⌝ }
+    ensures { λ r. ⌜ val r ≡ bitOr (val m) (2 ^ k) ⌝ }
+{
+    or(m, only(k))
 }
 
 pub fn without(m: Mask, k: usize) -> Mask
     requires { ⌜ k < offsets ⌝ }
     ensures { λ r. ⌜ val r ≡ bitMinus (val m) (2 ^ k) ⌝ }
 {
-    let i = k / 64;
-    let j = k % 64;
-    let w = word(m, i);
-    set_word(m, i, w & !(1u64 << j))
+    minus(m, only(k))
 }
 
 pub fn same(m: Mask, n: Mask) -> bool

@@ -226,6 +226,20 @@ place-range lo hi v = go (v -ℤ lo) refl
     go (pos o) e = ap (λ (b : Bool). b && leZ v hi) (from (pos o) e ∙ leb·zero o) ∙ ap (λ (x : ℤ). leZ x hi) (moved-back v lo ∙ ap (λ (z : ℤ). lo +ℤ z) e) ∙ le-span lo hi o ∙ pick o (ltb o (spanOf lo hi)) refl
     go (negsuc k) e = ap (λ (b : Bool). b && leZ v hi) (from (negsuc k) e) ∙ sym (le-ltb (spanOf lo hi) (spanOf lo hi) (le-refl (spanOf lo hi)))
 
+-- a value that doesn't stand before lo is lo and its distance from it
+pub not-before : (lo v : ℤ) → leZ lo v ≡ true → ltZ (v -ℤ lo) (pos 0) ≡ false
+not-before lo v h =
+    let e : not (ltZ (v -ℤ lo) (pos 0)) ≡ true = sym (le-not-lt (pos 0) (v -ℤ lo)) ∙ sym (le-diff lo (pos 0) v) ∙ ap (λ (x : ℤ). leZ x v) (+ℤ-idr lo) ∙ h in
+    go (ltZ (v -ℤ lo) (pos 0)) e
+  where
+    go : (b : Bool) → not b ≡ true → b ≡ false
+    go true q = sym q
+    go false q = refl
+
+pub up-distance : (d : ℤ) → ltZ d (pos 0) ≡ false → d ≡ pos (natAbs d)
+up-distance (pos o) s = refl
+up-distance (negsuc k) s = absurd (subst T s tt)
+
 -- ---- a universe within i32
 between : (lo : ℤ) (d k : ℕ) → SFits w32 lo → SFits w32 (lo +ℤ pos d) → k ≤ d → SFits w32 (lo +ℤ pos k)
 between (pos a) d k f g h = record { sfits = omega (arith, g .sfits) }

@@ -107,6 +107,9 @@ module _ {r a b : ℤ} (e : r ≡ toZ w32 (ofZ w32 a) -ℤ toZ w32 (ofZ w32 b)) 
   pub gap-is : toZ w64 (ofZ w64 r) ≡ a -ℤ b
   gap-is = read64 (subst (λ (x : ℤ). SFits w64 x) (sym gap-eq) (sub-fits fa fb)) ∙ gap-eq
 
+  pub gap-small : SFits w64 (toZ w64 (ofZ w64 r))
+  gap-small = subst (λ (x : ℤ). SFits w64 x) (sym gap-is) (sub-fits fa fb)
+
   -- and k more than it
   pub more-small : {k : ℕ} → k ≤ 2 ^ 32 → SFits w64 ((a -ℤ b) +ℤ pos k)
   more-small {k} h = record { sfits = omega (arith, mag-add (a -ℤ b) (pos k), mag-add a (negℤ b), mag-neg b, fa .sfits, fb .sfits) }

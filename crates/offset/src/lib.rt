@@ -1,9 +1,12 @@
 // Where a chute stands in a universe of i32 values, counted from the universe's smallest. The differences are taken in i64,
 // so that none wraps, also from one end of i32 to the other.
 //
-// gap, span; place, below, upto; value
+// gap, span; is_within, from; place, below, upto; value
 ghost use mathlib.Core.Path.{_≡_};
+ghost use mathlib.Core.Bool.{true};
+ghost use lib.Dec.{ltb};
 ghost use lib.IntN.{pos, _+ℤ_, _-ℤ_};
+ghost use lib.Signed.{leZ};
 ghost use mir.Syntax.{w32};
 ghost use mir.Val.{SFits};
 ghost use Rattle.offset.specs.Places.{clip, placeOf, cutOf, spanOf};
@@ -24,6 +27,21 @@ pub fn span(min: i32, max: i32) -> usize
         return 0;
     }
     w as usize
+}
+
+// Does v stand in the universe from min to max, and so has an offset there?
+pub fn is_within(v: i32, min: i32, max: i32) -> bool
+    ensures { λ r. ⌜ r ≡ ltb (placeOf (spanOf min max) (v -ℤ min)) (spanOf min max) ⌝ }
+{
+    min <= v && v <= max
+}
+
+// The offset of a value that doesn't stand before min.
+pub fn from(v: i32, min: i32) -> usize
+    requires { ⌜ leZ min v ≡ true ⌝ }
+    ensures { λ r. ⌜ v ≡ min +ℤ pos r ⌝ }
+{
+    gap(v, min) as usize
 }
 
 // A distance among n offsets: itself where it is one of them, n past them, and low below them.

@@ -9,7 +9,7 @@ use Rattle.mask.proofs.only.Tie as tie
 returns : tie.Need-returns
 returns c =
     let k : ℕ = c .before .before .args .k in
-    c .with .ensures ∙ ap (λ (x : ℕ). bitOr x (2 ^ k)) (c .before .empty .ensures) ∙ or-zero-l (2 ^ k)
+    c .mark .ensures ∙ ap (λ (x : ℕ). bitOr x (2 ^ k)) (c .before .empty .ensures) ∙ or-zero-l (2 ^ k)
 
 pub only-spec : {M : Type 1} → statement M
 only-spec = tie.close (tie.spec (λ c κs. search needs) (λ c κs. search needs) returns)

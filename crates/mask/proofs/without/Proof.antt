@@ -1,22 +1,16 @@
--- `mask::without` meets its contract: one word changes. Says nothing of how many words there are. Assumes nothing.
+-- `mask::without` meets its contract: the set of k alone is taken out. Says nothing of how many words there are. Assumes nothing.
 use borrow.Author.Needs.{needs}
 use mathlib.Core.Path.{ap, _∙_}
-use Prim.Native.Nat.{ℕ, _-_, _*_, _/_, _%_, _^_}
-use native.Mathlib.Omega.{arith}
-use lib.ListN.{set}
-use lib.Bits.{bitAnd}
-use Rattle.mask.specs.Val.{val, wordsOf}
-use Rattle.mask.specs.Words.{valueOf, without-word}
+use Prim.Native.Nat.{ℕ}
+use Rattle.mask.specs.Bit.{bitMinus}
+use Rattle.mask.specs.Val.{val}
 use Rattle.mask.proofs.without.Statement.{statement}
 use Rattle.mask.proofs.without.Tie as tie
 
 returns : tie.Need-returns
-unfolding val
 returns c =
     let a = c .before .before .args in
-    ap valueOf (c .set-word .ensures)
-    ∙ ap (λ (w : ℕ). valueOf (set (wordsOf (a .m)) (a .k / 64) (bitAnd w ((2 ^ 64 - 1) - (1 * 2 ^ (a .k % 64)) % 2 ^ 64)))) (c .before .word .ensures)
-    ∙ without-word (wordsOf (a .m)) (a .k / 64) (a .k % 64) (a .k) (omega arith) (omega arith) (omega arith) (search needs)
+    c .minus .ensures ∙ ap (λ (x : ℕ). bitMinus (val (a .m)) x) (c .before .only .ensures)
 
 pub without-spec : {M : Type 1} → statement M
-without-spec = tie.close (tie.spec (λ c κs. search needs) (λ c. search needs) (λ c κs. search needs) returns)
+without-spec = tie.close (tie.spec (λ c κs. search needs) (λ c κs. search needs) returns)
