@@ -1,5 +1,6 @@
 pub mod Values
 pub mod Texts
 pub mod Puts
+pub mod Writes
 pub mod Room
 pub mod Examples

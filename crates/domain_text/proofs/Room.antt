@@ -1,23 +1,23 @@
 -- How long a text can be: a caller who lends this many bytes always has room. Assumes nothing.
-use mathlib.Core.Path.{_≡_, ap, _∙_}
+use mathlib.Core.Path.{_≡_, refl, sym, ap, _∙_}
 use mathlib.Core.Bool.{Bool, true, cond}
-use mathlib.Core.List.{List, _++_}
+use mathlib.Core.List.{List}
 use Prim.Native.Nat.{ℕ, _≤_}
 use native.Mathlib.Omega.{arith}
-use borrow.Author.Tests.{le-leb}
 use lib.IntN.{ℤ}
-use lib.ListN.{length, drop}
+use lib.ListN.{length}
 use mir.Syntax.{w32}
 use mir.Val.{SFits}
 use Rattle.mask.specs.Val.{Fit}
 use Rattle.mask.specs.declared.Mask.{Mask}
-use Rattle.rules.specs.declared.Refusal.the-variants.{Broken, NoRoom}
+use Rattle.rules.specs.declared.Refusal.the-variants.{Broken}
 use Rattle.domain.specs.Set.{valuesOf, setOf, well}
 use Rattle.domain.specs.declared.BitDomain.{BitDomain}
 use Rattle.domain.specs.declared.Counted.the-variants.{Count}
-use Rattle.domain_text.specs.Text.{textOf, writes, refuses, writeTextOf}
+use Rattle.domain_text.specs.Text.{textOf, Written, writes, refuses, writeTextOf}
 use Rattle.domain_text.proofs.Values.{few, sizes-few}
 use Rattle.domain_text.proofs.Texts.{run-le, text-size}
+use Rattle.domain_text.proofs.Writes.{room}
 
 -- 128 values of at most 11 bytes, 127 commas, the brackets and the bar
 abbrev pub longest : ℕ
@@ -30,5 +30,4 @@ pub always-room : (d : BitDomain) (cells : List ℕ) → SFits w32 (d .min) → 
 unfolding writeTextOf
 always-room d cells f h w l =
     ap (λ (b : Bool). cond b (writes (textOf (setOf d)) cells) (refuses Broken cells) .answer) w
-    ∙ ap (λ (b : Bool). cond b (record { answer = Count (length (textOf (setOf d))); cells = textOf (setOf d) ++ drop (length (textOf (setOf d))) cells }) (refuses NoRoom cells) .answer)
-    (le-leb (length (textOf (setOf d))) (length cells) (omega (arith, text-few (d .min) (d .mask) f h)))
+    ∙ ap (λ (r : Written). r .answer) (sym (room (textOf (setOf d)) cells refl (omega (arith, text-few (d .min) (d .mask) f h)) refl))

@@ -16,6 +16,7 @@ use Rattle.board.specs.View.{view}
 use Rattle.board.proofs.WellLaws.{well-says}
 use Rattle.domain.specs.declared.Counted.the-variants.{Count}
 use Rattle.domain_text.specs.Text.{Written, refuses}
+use Rattle.domain_text.proofs.Writes.{room, no-room}
 use Rattle.sheet_form.specs.declared.Destination.{Destination}
 use Rattle.sheet_form.specs.declared.Line.{Line}
 use Rattle.sheet_form.specs.Sheet.{Sheet, All, Few}
@@ -37,7 +38,6 @@ use Rattle.wave_print.proofs.Room.{printed-few, bad-few}
 use Rattle.wave.specs.Text.{toldOf, waveText, waveOf, ranText}
 use Rattle.wave.proofs.Small.{Within32, brief-run}
 use Rattle.wave.proofs.Answers.{answers-terse}
-use Rattle.wave.proofs.Writing.{room, no-room}
 
 -- ---- what is printed
 

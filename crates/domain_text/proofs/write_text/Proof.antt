@@ -2,11 +2,10 @@
 use mathlib.Core.Path.{_≡_, sym, ap, _∙_}
 use mathlib.Core.Bool.{Bool, true, false, cond}
 use mathlib.Core.List.{List, _++_}
-use Prim.Native.Nat.{ℕ, _≤_, _<_}
+use Prim.Native.Nat.{ℕ, _≤_}
 use native.Mathlib.Nat.{zero-add}
 use native.Mathlib.Omega.{arith}
 use borrow.Author.Needs.{needs}
-use borrow.Author.Tests.{le-leb, lt-leb}
 use denote.Ref.{now}
 use mir.Syntax.{w32}
 use mir.Val.{SFits, toZ, ofZ}
@@ -15,11 +14,11 @@ use lib.ListN.{length, drop}
 use Rattle.decimal.specs.Put.{putOf}
 use Rattle.decimal.proofs.Puts.{put-cells}
 use Rattle.offset.specs.Wide.{read32}
-use Rattle.rules.specs.declared.Refusal.the-variants.{Broken, NoRoom}
+use Rattle.rules.specs.declared.Refusal.the-variants.{Broken}
 use Rattle.domain.specs.Set.{valuesOf, setOf, well}
 use Rattle.domain.specs.declared.BitDomain.{BitDomain}
-use Rattle.domain.specs.declared.Counted.the-variants.{Count}
 use Rattle.domain_text.specs.Text.{textOf, refuses, writes, writeTextOf}
+use Rattle.domain_text.proofs.Writes.{no-room, room}
 use Rattle.domain_text.proofs.write_text.Statement.{statement}
 use Rattle.domain_text.proofs.write_text.Tie as tie
 
@@ -37,13 +36,9 @@ sound d cells f e t =
     ap (λ (lo : ℤ). writes (textOf (valuesOf lo (d .mask))) cells) (read32 f)
     ∙ ap (λ (b : Bool). cond b (writes (textOf (setOf d)) cells) (refuses Broken cells)) (sym t ∙ e)
 
-no-room : (text cells : List ℕ) {n : ℕ} → n ≡ length text → length cells < n → refuses NoRoom cells ≡ writes text cells
-no-room text cells e h = rw (lt-leb (length text) (length cells) (omega arith))
-
-room : (text cells : List ℕ) {m : List ℕ} {n : ℕ} → n ≡ length text → n ≤ length cells → m ≡ putOf text cells 0 .cells → record { answer = Count n; cells = m } ≡ writes text cells
-room text cells {m} e h p =
-    let k : m ≡ text ++ drop (length text) cells = p ∙ put-cells text cells 0 (omega arith) ∙ ap (λ (j : ℕ). text ++ drop j cells) (zero-add (length text)) in
-    rw (le-leb (length text) (length cells) (omega arith)) (cc)
+-- what is put at the start is the text, and then what was there
+put : (text cells : List ℕ) {n : ℕ} → n ≡ length text → n ≤ length cells → putOf text cells 0 .cells ≡ text ++ drop n cells
+put text cells e h = put-cells text cells 0 (omega arith) ∙ ap (λ (j : ℕ). text ++ drop j cells) (zero-add (length text) ∙ sym e)
 
 returns : tie.Need-returns
 returns c =
@@ -56,7 +51,8 @@ returns-2 : tie.Need-returns-2
 returns-2 c =
     let s = c .before .before .before .before .before .before .before .before .before .before .before in
     let t = c .before .before .before .before .before .before in
-    room (shown (s .args .d)) (now (s .args .out)) (t .text-size .ensures) (c .before .before .before .before .before .if2 .left) (c .before .before .put-text .ensures)
+    let fits = c .before .before .before .before .before .if2 .left in
+    room (shown (s .args .d)) (now (s .args .out)) (t .text-size .ensures) fits (c .before .before .put-text .ensures ∙ put (shown (s .args .d)) (now (s .args .out)) (t .text-size .ensures) fits)
     ∙ sound (s .args .d) (now (s .args .out)) (search needs) (t .before .before .before .is-well .ensures) (t .before .before .if1 .taken)
 
 returns-3 : tie.Need-returns-3

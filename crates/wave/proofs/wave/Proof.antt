@@ -7,9 +7,10 @@ use borrow.Author.Needs.{needs}
 use denote.Ref.{now}
 use lib.ListN.{length, take, drop}
 use lib.Seq.{length-take-le, take-length}
+use Rattle.domain_text.proofs.Writes.{no-room, room}
 use Rattle.wave_print.proofs.Pieces.{kept}
 use Rattle.wave.specs.Text.{waveText, waveOf}
-use Rattle.wave.proofs.Writing.{put-size, put-front, no-room, room}
+use Rattle.wave.proofs.Writing.{put-size, put-front}
 use Rattle.wave.proofs.Theorems.{text-few}
 use Rattle.wave.proofs.wave.Statement.{statement}
 use Rattle.wave.proofs.wave.Tie as tie
