@@ -13,10 +13,10 @@ use Rattle.closing.specs.declared.Closing.{Closing}
 use Rattle.board.specs.Rows.{withRows}
 use Rattle.board.specs.Well.{wellBoard}
 use Rattle.board.specs.View.{view}
-use Rattle.board.specs.Obeys.{Whole, Alike, Obeys}
+use Rattle.board.specs.Obeys.{Whole, Obeys}
 use Rattle.board.specs.declared.Board.{Board}
 use Rattle.board.specs.declared.Closed.{Closed}
-use Rattle.board_close.proofs.Theorems.{alike-same}
+use Rattle.board.proofs.ViewLaws.{alike-same, alike-then}
 use Rattle.batch.specs.Batch.{closedBy, closedAll, isYes, more, yeses, batchOf, countedOf, closingOf}
 use Rattle.batch.specs.Tallies.{untold, tallyOf}
 use Rattle.batch.specs.declared.Batched.{Batched}
@@ -75,14 +75,6 @@ batch-more b c cs whole w =
     count = yeses-more c b w cs
 
 -- ---- as the rules say
-
-alike-then : (a b c : Board) → Alike a b → Alike b c → Alike a c
-alike-then a b c p q = record {
-  count = q .count ∙ p .count;
-  id = λ i. q .id i ∙ p .id i;
-  min = λ i. q .min i ∙ p .min i;
-  max = λ i. q .max i ∙ p .max i;
-}
 
 said-one : (x y : Bool) → rules.said x ≡ rules.said y → x ≡ y
 said-one x y e = cc

@@ -17,6 +17,7 @@ use Rattle.rules.proofs.RowLaws.{domain-unknown}
 use Rattle.saved.specs.Saved.{fitUnder, savedAt}
 use Rattle.board.specs.Rows.{row0, rowAt, idAt, domainAt, seat, withDomain, withRows}
 use Rattle.board.specs.Well.{differ, wellBoard}
+use Rattle.board.specs.Obeys.{Alike}
 use Rattle.board.specs.View.{rowsFrom, rowsOf, heldAt, savedIn, marksOf, view}
 use Rattle.board.specs.declared.Row.{Row}
 use Rattle.board.specs.declared.Board.{Board}
@@ -166,3 +167,16 @@ module _ (b : Board) (w : wellBoard b ≡ true) (long : length (b .rows) ≡ 64)
 
     pub put-well : well d ≡ true → width d ≡ width (domainAt (b .rows) p) → wellBoard (withRows b (withDomain (b .rows) p d) y) ≡ true
     put-well v e = says-well (withDomain (b .rows) p d) (b .count) (b .saved) (b .marks) (with-sound (b .rows) p d room (b .count) (b .saved) (b .marks) v e l (sound b w))
+
+-- ---- boards with the same ids and universes
+
+pub alike-same : (b : Board) → Alike b b
+alike-same b = record { count = refl; id = λ i. refl; min = λ i. refl; max = λ i. refl }
+
+pub alike-then : (a b c : Board) → Alike a b → Alike b c → Alike a c
+alike-then a b c p q = record {
+  count = q .count ∙ p .count;
+  id = λ i. q .id i ∙ p .id i;
+  min = λ i. q .min i ∙ p .min i;
+  max = λ i. q .max i ∙ p .max i;
+}

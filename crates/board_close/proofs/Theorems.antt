@@ -18,19 +18,16 @@ use Rattle.board.specs.Rows.{idAt, domainAt, nowhere, seat}
 use Rattle.board.specs.Well.{wellBoard}
 use Rattle.board.specs.View.{view}
 use Rattle.board.specs.Answers.{said, unsaid, denied}
-use Rattle.board.specs.Obeys.{toldOf, outcomeOf, Whole, Alike, Obeys}
+use Rattle.board.specs.Obeys.{toldOf, outcomeOf, Whole, Obeys}
 use Rattle.board.specs.declared.Board.{Board}
 use Rattle.board.specs.declared.Closed.{Closed}
-use Rattle.board.proofs.ViewLaws.{domain-well, seat-below, seat-id, view-unknown, view-domain, view-put, put-well, with-each, with-id}
+use Rattle.board.proofs.ViewLaws.{domain-well, seat-below, seat-id, view-unknown, view-domain, view-put, put-well, with-each, with-id, alike-same}
 use Rattle.board_close.specs.Close.{left, closeAt, closeOf, resetOf, changedOf}
 use Rattle.board_close.proofs.Closing.{close-broken, close-unknown, close-known}
 
 -- the closing that a call makes
 abbrev pub closing : rules.Kind → Variable → Value → rules.Closing
 closing k id v = record { kind = k; id = id .0; value = v .0 }
-
-pub alike-same : (b : Board) → Alike b b
-alike-same b = record { count = refl; id = λ i. refl; min = λ i. refl; max = λ i. refl }
 
 abbrev Closes : rules.Kind → Board → Variable → Value → Closed → Type 0
 Closes k b id v r = Obeys (rules.close (closing k id v)) b (r .board) (toldOf (r .answer))

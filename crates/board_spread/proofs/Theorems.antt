@@ -28,7 +28,7 @@ use Rattle.board.specs.View.{heldAt, view}
 use Rattle.board.specs.Obeys.{Whole, Obeys}
 use Rattle.board.specs.declared.Board.{Board}
 use Rattle.board.specs.declared.Row.{Row}
-use Rattle.board.proofs.ViewLaws.{domain-well, seat-below, seat-id, view-domain, view-put, put-well}
+use Rattle.board.proofs.ViewLaws.{domain-well, seat-below, seat-id, view-domain, view-put, put-well, alike-same}
 use Rattle.board_list.proofs.Theorems.{listed-seat}
 use Rattle.board_spread.specs.Spread.{holdAll, prunedAt, prunedOf, soundRows, handed, refused, spreadOf, pairOf}
 use Rattle.board_spread.specs.declared.Pair.the-variants as pair
@@ -145,7 +145,7 @@ module _ (b : Board) (is : List ℕ) (whole : Whole b) (w : wellBoard b ≡ true
         well = w;
         acts = sym (n .0);
         answers = sym (n .1);
-        stays = λ m. record { count = refl; id = λ i. refl; min = λ i. refl; max = λ i. refl };
+        stays = λ m. alike-same b;
       }
 
   spreads-taken : rules.listing is (view b .now) ≡ rules.accepted → Spreads (handed b (prunedAt (b .rows) (map (seat b) is)))

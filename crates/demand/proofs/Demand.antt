@@ -15,11 +15,12 @@ use Rattle.domain_values.specs.Calls.{fromValuesOf}
 use Rattle.board.specs.Well.{wellBoard}
 use Rattle.board.specs.View.{view}
 use Rattle.board.specs.Obeys.{Whole, Alike, Obeys}
+use Rattle.board.proofs.ViewLaws.{alike-same}
 use Rattle.board.specs.Worded.{Worded}
 use Rattle.board.specs.declared.Board.{Board}
 use Rattle.board.specs.declared.Closed.{Closed}
 use Rattle.board.specs.declared.Settled.{Settled}
-use Rattle.board_close.proofs.Theorems.{close-obeys, close-refuses, reset-obeys, reset-refuses, changed-answers, alike-same}
+use Rattle.board_close.proofs.Theorems.{close-obeys, close-refuses, reset-obeys, reset-refuses, changed-answers}
 use Rattle.board_close.proofs.Worded.{close-worded, reset-worded}
 use Rattle.batch.specs.declared.Batched.{Batched}
 use Rattle.batch.proofs.Theorems.{batch-obeys, batch-refuses}

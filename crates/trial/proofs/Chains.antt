@@ -21,7 +21,7 @@ use Rattle.board.specs.View.{heldAt, view}
 use Rattle.board.specs.Obeys.{Whole, Alike, Obeys}
 use Rattle.board.specs.declared.Board.{Board}
 use Rattle.board.proofs.RowLaws.{known-at, domain-at}
-use Rattle.board.proofs.ViewLaws.{sound, seat-below, seat-id, view-domain, view-unknown}
+use Rattle.board.proofs.ViewLaws.{sound, seat-below, seat-id, view-domain, view-unknown, alike-same, alike-then}
 use Rattle.trial.specs.Calls.{Step, Chain, final, calls, answers, Allows}
 
 pub chain-view : (b : Board) (ss : List Step) → Chain b ss → view (final b ss) ≡ rules.run (calls ss) (view b)
@@ -43,18 +43,10 @@ pub chain-whole : (b : Board) (ss : List Step) → Chain b ss → Whole b → Wh
 chain-whole b [] ch w = w
 chain-whole b (s ∷ ss) ch w = chain-whole (s .board) ss (ch .1) (ch .0 .whole)
 
-pub alike-trans : (b c d : Board) → Alike b c → Alike c d → Alike b d
-alike-trans b c d x y = record {
-  count = y .count ∙ x .count;
-  id = λ i. y .id i ∙ x .id i;
-  min = λ i. y .min i ∙ x .min i;
-  max = λ i. y .max i ∙ x .max i;
-}
-
 -- none changes the registered ids, their order or their universes while a mark is open
 pub chain-alike : (b : Board) (ss : List Step) → Chain b ss → 0 < b .marks → Every (λ s. 0 < s .board .marks) ss → Alike b (final b ss)
-chain-alike b [] ch m o = record { count = refl; id = λ i. refl; min = λ i. refl; max = λ i. refl }
-chain-alike b (s ∷ ss) ch m o = alike-trans b (s .board) (final (s .board) ss) (ch .0 .stays m) (chain-alike (s .board) ss (ch .1) (o .0) (o .1))
+chain-alike b [] ch m o = alike-same b
+chain-alike b (s ∷ ss) ch m o = alike-then b (s .board) (final (s .board) ss) (ch .0 .stays m) (chain-alike (s .board) ss (ch .1) (o .0) (o .1))
 
 -- ---- ways
 

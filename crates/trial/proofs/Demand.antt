@@ -24,12 +24,12 @@ use Rattle.board.specs.Obeys.{outcomeOf, Whole, Alike, Obeys}
 use Rattle.board.specs.Worded.{Worded}
 use Rattle.board.specs.declared.Board.{Board}
 use Rattle.board.specs.declared.Settled.{Settled}
-use Rattle.board.proofs.ViewLaws.{view-marks}
+use Rattle.board.proofs.ViewLaws.{view-marks, alike-then}
 use Rattle.trial.specs.Marks.{marked, restored, markOf, restoreOf, keepOf}
 use Rattle.trial.specs.Calls.{Step, Chain, final, calls, StaysOpen, workSince, Allows, Exactly, SameMarks, Same}
 use Rattle.trial.proofs.Theorems.{mark-refuses, mark-deep, mark-done, restore-done, keep-done, mark-obeys, restore-obeys}
 use Rattle.trial.proofs.Levels.{chain-level}
-use Rattle.trial.proofs.Chains.{chain-view, chain-well, chain-whole, chain-alike, alike-trans, allows-view}
+use Rattle.trial.proofs.Chains.{chain-view, chain-well, chain-whole, chain-alike, allows-view}
 use Rattle.trial.proofs.Words.{same-words}
 use Rattle.trial.proofs.Worded.{restore-worded}
 
@@ -95,7 +95,7 @@ module _ (b : Board) (whole : Whole b) (accepted : markOf b .answer ≡ outcome.
   -- the destinations, their order and their universes are those at the mark
   pub trial-alike : Alike b now
   trial-alike =
-      alike-trans b begun now
+      alike-then b begun now
       (subst (λ (c : Board). Alike b c) (sym is-marked) (record { count = refl; id = λ i. refl; min = λ i. refl; max = λ i. refl }))
       (chain-alike begun ss chain (omega (arith, begun-marks)) (some-open (b .marks) ss still))
 
@@ -136,7 +136,7 @@ module _ (b : Board) (whole : Whole b) (accepted : markOf b .answer ≡ outcome.
       pub trial-restored : (restoreOf now .answer ≡ outcome.Done) × Same b back
       trial-restored = (
         ap (λ (s : Settled). s .answer) is-restored,
-        same-words b back x (restore-worded now y) (alike-trans b now back trial-alike (undone .stays some-mark)) (trial-undone .0) (trial-undone .1),
+        same-words b back x (restore-worded now y) (alike-then b now back trial-alike (undone .stays some-mark)) (trial-undone .0) (trial-undone .1),
       )
 
       -- keeping it leaves every domain, and the older marks are those before it
