@@ -17,10 +17,11 @@ use Rattle.mask.specs.Bit.{has-lowest}
 use Rattle.mask.specs.Val.{val}
 use Rattle.mask.specs.Sets.{In, in-none, in-and, in-or, pos-of-ones}
 use Rattle.mask.specs.declared.Mask.{Mask}
+use Rattle.offset.specs.Universe.{value-inj}
 use Rattle.rules.specs.Sets.{has}
 use Rattle.rules.specs.Pass.{still, sweep, step1}
 use Rattle.domain.specs.Set.{valuesOf}
-use Rattle.domain.proofs.Laws.{shift-inj, in-values, values-offset}
+use Rattle.domain.proofs.Laws.{in-values, values-offset}
 use Rattle.masks.specs.Cells.{maskAt}
 use Rattle.sweep.specs.Listed.{domainAt, listed, assigned, Level}
 use Rattle.sweep.proofs.Turns.{assigned-at}
@@ -126,4 +127,4 @@ module _ (mins : List ℤ) (ws : List ℕ) (n : ℕ) (u : Mask) (f : Fixing ws n
       apart p q x h l d e g s t =
           let r = offset p x h s in
           let w = offset q x l t in
-          f .apart p q (r .0) h l d (is-one p h e) (is-one q l g) (r .2) (subst (In (val (maskAt ws q))) (shift-inj lo (w .0) (r .0) (sym (w .1) ∙ r .1)) (w .2))
+          f .apart p q (r .0) h l d (is-one p h e) (is-one q l g) (r .2) (subst (In (val (maskAt ws q))) (value-inj lo (w .0) (r .0) (sym (w .1) ∙ r .1)) (w .2))

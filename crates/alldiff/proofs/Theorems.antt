@@ -16,7 +16,7 @@ use Rattle.masks.specs.Cells.{maskAt}
 use Rattle.masks.proofs.Laws.{same-masks}
 use Rattle.sweep.specs.Listed.{listed, domainAt, Left}
 use Rattle.sweep.proofs.Turns.{listed-at}
-use Rattle.sweep.proofs.Values.{same-values}
+use Rattle.domain.proofs.Laws.{same-values}
 use Rattle.alldiff.specs.declared.Passed.{Passed}
 use Rattle.alldiff.specs.Gather.{told}
 

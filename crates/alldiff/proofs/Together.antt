@@ -16,12 +16,12 @@ use Rattle.mask.specs.Sets.{countUp}
 use Rattle.rules.specs.Sets.{Chutes, has, some, strike}
 use Rattle.rules.specs.Pass.{Places, choose, Swept, still, lost, sweep, next, chain, tight, noted, step1}
 use Rattle.rules.proofs.Tests.{is-true, is-false, and-left, and-right, and-both, and-false, or-left, or-right, or-cases, on-cond}
-use Rattle.rules.proofs.SetLaws.{has-cons, has-head, has-append, has-strike, has-some, length-keep, keep-all}
+use Rattle.rules.proofs.SetLaws.{has-cons, has-head, has-append, has-strike, has-some, length-keep, keep-all, lost-same}
 use Rattle.rules.proofs.Loops.{only}
 use Rattle.domain.proofs.Ends.{size-ones}
 use Rattle.masks.specs.Cells.{maskAt}
-use Rattle.sweep.proofs.Values.{strike-more, strike-same, strike-nothing, lost-same}
-use Rattle.alldiff.proofs.StepOne.{places, visit, step1-places, visit-idle, visit-one}
+use Rattle.sweep.proofs.Values.{strike-more, strike-same, strike-nothing}
+use Rattle.alldiff.proofs.StepOne.{visit, step1-places, visit-idle, visit-one}
 use Rattle.sweep.specs.Listed.{listed, domainAt, assigned}
 use Rattle.sweep.proofs.Turns.{listed-length, listed-at, assigned-length, assigned-at, only-length, only-in, only-out}
 

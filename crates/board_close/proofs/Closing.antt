@@ -5,22 +5,20 @@ use mathlib.Core.List.{List}
 use Prim.Native.Nat.{ℕ, _<_, _≤_}
 use native.Mathlib.Omega.{arith}
 use lib.Dec.{T, eqb}
-use lib.IntN.{ℤ, pos, _+ℤ_}
-use lib.ListN.{length, set}
+use lib.IntN.{ℤ}
+use lib.ListN.{set}
 use borrow.Author.Tests.{eqb-true, eqb-false, lt-ltb, le-ltb}
 use Rattle.mask.specs.Val.{val}
-use Rattle.mask.specs.Sets.{same-set}
-use Rattle.mask.specs.declared.Mask.{Mask}
 use Rattle.rules.specs.Sets.{Chutes, has, keep}
 use Rattle.rules.specs.Pass.{lost}
 use Rattle.rules.specs.Board as rules
-use Rattle.rules.proofs.Tests.{true-is, or-false, and-false}
-use Rattle.rules.proofs.SetLaws.{keep-all, lost-one}
+use Rattle.rules.proofs.Tests.{true-is, or-false, and-true, and-false}
+use Rattle.rules.proofs.SetLaws.{keep-all, lost-one, lost-same}
 use Rattle.rules.proofs.CallLaws.{closes-lost}
-use Rattle.domain.specs.Set.{valuesOf, setOf, well}
+use Rattle.domain.specs.Set.{setOf, well}
 use Rattle.domain.specs.declared.BitDomain.{BitDomain}
 use Rattle.domain.specs.declared.Told.the-variants as told
-use Rattle.domain.proofs.Laws.{in-values, values-in}
+use Rattle.domain.proofs.Laws.{same-values, same-mask}
 use Rattle.domain.proofs.Theorems.{narrowed-set}
 use Rattle.rules.specs.declared.Variable.{Variable}
 use Rattle.rules.specs.declared.Value.{Value}
@@ -37,17 +35,6 @@ use Rattle.board_close.specs.Close.{left, shutOf, closeAt, closeOf, rese
 
 -- ---- masks and their values
 
--- masks that stand for the same values, over universes that start together, are the same
-same-values : (lo : ℤ) (m n : Mask) → valuesOf lo m ≡ valuesOf lo n → val m ≡ val n
-same-values lo m n e =
-    same-set (val m) (val n)
-    (λ k h. values-in lo n k (subst (λ (s : Chutes). T (has (lo +ℤ pos k) s)) e (in-values lo m k h)))
-    (λ k h. values-in lo m k (subst (λ (s : Chutes). T (has (lo +ℤ pos k) s)) (sym e) (in-values lo n k h)))
-
-same-mask : (lo : ℤ) (m n : Mask) → val m ≡ val n → valuesOf lo m ≡ valuesOf lo n
-unfolding valuesOf
-same-mask lo m n e = rw e
-
 -- a set that loses nothing stays as it is
 none-lost : (p : ℤ → Bool) (s : Chutes) → lost (keep p s) s ≡ false → keep p s ≡ s
 none-lost p s e = keep-all p s (λ x h. go x h (p x) refl)
@@ -58,9 +45,6 @@ none-lost p s e = keep-all p s (λ x h. go x h (p x) refl)
       where
         true-false : true ≡ false → ⊥
         true-false z = subst T z tt
-
-not-lost : (s : Chutes) → lost s s ≡ false
-not-lost s = le-ltb (length s) (length s) (omega arith)
 
 -- a closing answers yes exactly if the mask changes
 pub took : (k : rules.Kind) (v : ℤ) (d : BitDomain) → well d ≡ true → not (eqb (val (left k v d .mask)) (val (d .mask))) ≡ rules.closes k v (setOf d)
@@ -75,7 +59,7 @@ took k v d w = go (eqb (val (left k v d .mask)) (val (d .mask))) refl (lost (kee
     go : (a : Bool) → eqb (val (left k v d .mask)) (val (d .mask)) ≡ a → (c : Bool) → lost (keep p (setOf d)) (setOf d) ≡ c → not a ≡ lost (keep p (setOf d)) (setOf d)
     go true e c f =
         let z : keep p (setOf d) ≡ setOf d = sym kept ∙ same-mask (d .min) (left k v d .mask) (d .mask) (eqb-true (val (left k v d .mask)) (val (d .mask)) e) in
-        sym (ap (λ (s : Chutes). lost s (setOf d)) z ∙ not-lost (setOf d))
+        sym (ap (λ (s : Chutes). lost s (setOf d)) z ∙ lost-same (setOf d))
     go false e true f = sym f
     go false e false f =
         absurd (eqb-false (val (left k v d .mask)) (val (d .mask)) e (same-values (d .min) (left k v d .mask) (d .mask) (kept ∙ none-lost p (setOf d) f)))
@@ -128,10 +112,6 @@ module _ (k : rules.Kind) (b : Board) (id : Variable) (v : Value) (p : ℕ) (e :
     closed-broken q = ap (λ (c : Board). unsaid c Broken) as-it-came ∙ sym (close-broken k b id v (looked-broken b (id .0) p e q))
 
 -- ---- the flag
-
-and-true : (a : Bool) → a && true ≡ a
-and-true true = refl
-and-true false = refl
 
 -- p is what `look` answered, for whatever id
 module _ (b : Board) (p x : ℕ) (e : p ≡ lookOf (b .rows) (b .count) (b .saved) (b .marks) x) where

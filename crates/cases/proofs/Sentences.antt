@@ -3,7 +3,6 @@
 use mathlib.Core.Path.{_≡_, refl, sym, ap, _∙_, subst}
 use mathlib.Core.Bool.{Bool, true, false, not, _&&_, _||_, cond}
 use mathlib.Core.List.{List, [], _∷_}
-use mathlib.Core.Logic.{⊎-elim}
 use Prim.Native.Nat.{ℕ, _^_, _<_}
 use native.Mathlib.Omega.{arith}
 use borrow.Author.Tests.{le-leb, lt-leb}
@@ -17,8 +16,8 @@ use Rattle.rules.specs.Sets.{Chutes, same, has, keep}
 use Rattle.rules.specs.Board.{assign, leaves}
 use Rattle.rules.specs.declared.Value.{Value}
 use Rattle.rules.proofs.InOrder.{less-irrefl, less-trans}
-use Rattle.rules.proofs.SetLaws.{same-refl, has-cons, has-head, has-keep}
-use Rattle.rules.proofs.Tests.{is-true, is-false, true-is, and-left, and-right, and-false, or-left, or-true}
+use Rattle.rules.proofs.SetLaws.{same→eq, same-refl, has-head, has-keep}
+use Rattle.rules.proofs.Tests.{is-true, is-false, true-is, and-left, and-right, and-true, and-false, or-true}
 use Rattle.domain.specs.Set.{setOf, universe, well}
 use Rattle.domain.specs.Calls as bit
 use Rattle.domain.specs.Calls.{invalid, newOf, insertOf, removeOf, closeOf}
@@ -78,9 +77,6 @@ insert-tells : (d : BitDomain) → well d ≡ true → (v : Value) → insertOf 
 unfolding insertOf
 insert-tells d w v = rw w
 
-is-same : (x y : ℤ) → T (same x y) → x ≡ y
-is-same x y t = ⊎-elim (λ e. e) (λ f. absurd f) (has-cons x y [] (or-left (same x y) false t))
-
 memberless : (s : Chutes) → ((x : ℤ) → T (has x s) → ⊥) → s ≡ []
 memberless [] h = refl
 memberless (x ∷ s) h = absurd (h x (has-head x s))
@@ -102,10 +98,6 @@ module _ (d : BitDomain) (w : well d ≡ true) (v : Value) where
       ∙ ap (λ (t : Bool). has (v .0) (universe d) && (held d || t)) equal
       ∙ ap (λ (t : Bool). has (v .0) (universe d) && t) (or-true (held d))
       ∙ and-true (has (v .0) (universe d))
-    where
-      and-true : (x : Bool) → x && true ≡ x
-      and-true true = refl
-      and-true false = refl
 
   -- "`insert` and `remove` answer whether membership changed"
   pub remove-turns : removeOf d v .answer ≡ told.Is (turned (held d) (held (removeOf d v .domain)))
@@ -134,7 +126,7 @@ module _ (d : BitDomain) (w : well d ≡ true) (v : Value) where
       none : (x : ℤ) → T (has x (keep (leaves assign (v .0)) (setOf d))) → ⊥
       none x m =
           let k = rw has-keep at m in
-          let e = is-same x (v .0) (and-right (has x (setOf d)) (same x (v .0)) k) in
+          let e = same→eq x (v .0) (and-right (has x (setOf d)) (same x (v .0)) k) in
           rw h at (subst (λ (y : ℤ). T (has y (setOf d))) e (and-left (has x (setOf d)) (same x (v .0)) k))
 
 -- ---- sparse sets

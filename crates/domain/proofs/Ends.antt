@@ -1,12 +1,12 @@
 -- How many values a mask stands for, and which are the first, the last and the only one. Assumes nothing.
 use mathlib.Core.Path.{_≡_, refl, sym, ap, _∙_}
 use mathlib.Core.Bool.{Bool, true, false, not}
-use mathlib.Core.List.{List, [], _∷_, _++_, map}
+use mathlib.Core.List.{List, [], _∷_, _++_, map, map-append}
 use Prim.Native.Nat.{ℕ, suc, _^_}
 use native.Mathlib.Omega.{arith}
 use lib.Dec.{eqb}
 use lib.Count.{ones}
-use lib.ListN.{length}
+use lib.ListN.{length, length-map}
 use lib.IntN.{ℤ, pos, _+ℤ_}
 use borrow.Author.Tests.{eqb-true, eqb-false, eq-eqb, ne-eqb}
 use Rattle.mask.specs.Bit.{bitMinus, Lowest, Highest}
@@ -20,14 +20,6 @@ use Rattle.domain.specs.Set.{valuesOf}
 use Rattle.domain.specs.Calls.{at, firstOf, lastOf, onlyOf}
 
 -- ---- of any values
-
-length-map : {A B : Type 0} (f : A → B) (l : List A) → length (map f l) ≡ length l
-length-map f [] = refl
-length-map f (x ∷ l) = ap suc (length-map f l)
-
-map-append : {A B : Type 0} (f : A → B) (k l : List A) → map f (k ++ l) ≡ map f k ++ map f l
-map-append f [] l = refl
-map-append f (x ∷ k) l = ap {B = List _} (λ r. f x ∷ r) (map-append f k l)
 
 pub last-snoc : (s : Chutes) (x : ℤ) → lastOf (s ++ (x ∷ [])) ≡ at x
 last-snoc [] x = refl
@@ -56,7 +48,7 @@ some-length (x ∷ s) = sym (ne-eqb (suc (length s)) 0 (λ e. no e))
 module _ (lo : ℤ) (m : Mask) where
   pub size-ones : length (valuesOf lo m) ≡ ones (val m)
   unfolding valuesOf
-  size-ones = length-map (λ k. lo +ℤ pos k) (members (val m)) ∙ length-members 0 (val m)
+  size-ones = length-map (members (val m)) (λ k. lo +ℤ pos k) ∙ length-members 0 (val m)
 
   pub none-test : not (some (valuesOf lo m)) ≡ eqb (val m) 0
   none-test = some-length (valuesOf lo m) ∙ ap (λ (n : ℕ). eqb n 0) size-ones ∙ go (eqb (val m) 0) refl

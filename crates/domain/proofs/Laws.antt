@@ -13,6 +13,7 @@ use Rattle.mask.specs.Val.{val}
 use Rattle.mask.specs.Sets.{In, in-none, in-or, in-one, same-set, members, members-in, in-members}
 use Rattle.mask.specs.declared.Mask.{Mask}
 use Rattle.offset.specs.Places.{natural}
+use Rattle.offset.specs.Universe.{value-inj}
 use Rattle.rules.specs.Sets.{Chutes, has, keep}
 use Rattle.rules.proofs.Tests.{and-left, and-right, and-both}
 use Rattle.rules.proofs.SetLaws.{has-cons, has-head, has-tail, has-keep}
@@ -22,9 +23,6 @@ use Rattle.domain.specs.Set.{valuesOf, stretch, range, bitsOf}
 
 pub shift-back : (lo : ℤ) (k : ℕ) → (lo +ℤ pos k) -ℤ lo ≡ pos k
 shift-back lo k = ap (λ (x : ℤ). x -ℤ lo) (+ℤ-comm lo (pos k)) ∙ +ℤ-negℤ-cancel (pos k) lo
-
-pub shift-inj : (lo : ℤ) (j k : ℕ) → lo +ℤ pos j ≡ lo +ℤ pos k → j ≡ k
-shift-inj lo j k e = ap natural (sym (shift-back lo j) ∙ ap (λ (x : ℤ). x -ℤ lo) e ∙ shift-back lo k)
 
 -- each of s is the value at some offset
 abbrev pub From : ℤ → Chutes → Type 0
@@ -64,7 +62,18 @@ values-offset lo m x h =
 pub values-in : (lo : ℤ) (m : Mask) (k : ℕ) → T (has (lo +ℤ pos k) (valuesOf lo m)) → In (val m) k
 values-in lo m k h =
     let r = values-offset lo m (lo +ℤ pos k) h in
-    subst (λ (j : ℕ). In (val m) j) (sym (shift-inj lo k (r .0) (r .1))) (r .2)
+    subst (λ (j : ℕ). In (val m) j) (sym (value-inj lo k (r .0) (r .1))) (r .2)
+
+-- masks over universes that start together stand for the same values exactly if they are the same
+pub same-values : (lo : ℤ) (m n : Mask) → valuesOf lo m ≡ valuesOf lo n → val m ≡ val n
+same-values lo m n e =
+    same-set (val m) (val n)
+    (λ k h. values-in lo n k (subst (λ (s : Chutes). T (has (lo +ℤ pos k) s)) e (in-values lo m k h)))
+    (λ k h. values-in lo m k (subst (λ (s : Chutes). T (has (lo +ℤ pos k) s)) (sym e) (in-values lo n k h)))
+
+pub same-mask : (lo : ℤ) (m n : Mask) → val m ≡ val n → valuesOf lo m ≡ valuesOf lo n
+unfolding valuesOf
+same-mask lo m n e = rw e
 
 pub from-values : (lo : ℤ) (m : Mask) → From lo (valuesOf lo m)
 from-values lo m x h = let r = values-offset lo m x h in from-offset lo x (r .0) (r .1)
@@ -93,7 +102,7 @@ in-range lo n j h = in-stretch lo 0 n j zero-le (omega arith)
 pub range-in : (lo : ℤ) (n j : ℕ) → T (has (lo +ℤ pos j) (range lo n)) → j < n
 range-in lo n j h =
     let r = stretch-offset lo 0 n (lo +ℤ pos j) h in
-    omega (arith, shift-inj lo j (r .0) (r .1), r .3)
+    omega (arith, value-inj lo j (r .0) (r .1), r .3)
 
 pub from-range : (lo : ℤ) (n : ℕ) → From lo (range lo n)
 from-range lo n x h = let r = stretch-offset lo 0 n x h in from-offset lo x (r .0) (r .1)

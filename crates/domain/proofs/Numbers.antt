@@ -14,13 +14,13 @@ use Rattle.mask.specs.Val.{val}
 use Rattle.mask.specs.Sets.{In, in-none, in-and, in-minus, in-one, in-with, in-without, in-first}
 use Rattle.mask.specs.declared.Mask.{Mask}
 use Rattle.offset.specs.Places.{cutOf}
-use Rattle.offset.specs.Universe.{below-cut, upto-cut, le-not-lt}
+use Rattle.offset.specs.Universe.{value-inj, below-cut, upto-cut, le-not-lt}
 use Rattle.rules.specs.Sets.{same, has, keep}
 use Rattle.rules.proofs.Tests.{or-cases, or-left, or-right, is-true, true-is}
 use Rattle.rules.proofs.SetLaws.{same→eq, same-refl}
 use Rattle.rules.specs.Board.{leaves, remove, assign, below, above}
 use Rattle.domain.specs.Set.{valuesOf, range, bitsOf}
-use Rattle.domain.proofs.Laws.{shift-inj, in-values, values-in, range-in, in-range, from-range, is-bits, sift-bits, range-bits}
+use Rattle.domain.proofs.Laws.{in-values, values-in, range-in, in-range, from-range, is-bits, sift-bits, range-bits}
 
 -- ---- nothing, and all of a universe
 
@@ -35,7 +35,7 @@ module _ (lo : ℤ) (m : Mask) where
   -- ---- one value
 
   same-value : (j k : ℕ) → T (same (lo +ℤ pos j) (lo +ℤ pos k)) → j ≡ k
-  same-value j k t = shift-inj lo j k (same→eq (lo +ℤ pos j) (lo +ℤ pos k) t)
+  same-value j k t = value-inj lo j k (same→eq (lo +ℤ pos j) (lo +ℤ pos k) t)
 
   value-same : (j k : ℕ) → j ≡ k → T (same (lo +ℤ pos j) (lo +ℤ pos k))
   value-same j k e = rw e (same-refl (lo +ℤ pos k))

@@ -9,13 +9,17 @@ use mir.Facts.{toZ-ofZ}
 use borrow.Author.Tests.{eq-eqb, eqb-true}
 use lib.Signed.{ltZ}
 use Rattle.rules.specs.declared.Value.{Value}
-use Rattle.domain.specs.Calls.{ordered}
+use Rattle.domain.specs.Calls.{ordered, narrow}
 use Rattle.rules.specs.Sets.{same}
 use Rattle.rules.proofs.SetLaws.{same→eq, same-refl}
 use Rattle.rules.proofs.Tests.{is-true, is-false}
 
 pub read : (z : ℤ) → SFits w32 z → toZ w32 (ofZ w32 z) ≡ z
 read z f = toZ-ofZ f
+
+-- what was tested of the bits is so of the bounds
+pub near : (lo hi : ℤ) (r : Bool) → SFits w32 lo → SFits w32 hi → r ≡ narrow (toZ w32 (ofZ w32 lo)) (toZ w32 (ofZ w32 hi)) → r ≡ narrow lo hi
+near lo hi r f g e = e ∙ (λ i. narrow (read lo f i) (read hi g i))
 
 pub bits-inj : (x y : ℤ) → SFits w32 x → SFits w32 y → ofZ w32 x ≡ ofZ w32 y → x ≡ y
 bits-inj x y f g e = sym (read x f) ∙ ap (toZ w32) e ∙ read y g

@@ -1,4 +1,3 @@
-pub mod Every
 pub mod Walk
 pub mod Spread
 pub mod Theorems

@@ -2,7 +2,7 @@
 use mathlib.Core.Path.{_≡_, refl, sym, ap, _∙_}
 use mathlib.Core.Bool.{Bool, true, false, cond, _&&_}
 use mathlib.Core.List.{[], _∷_}
-use Prim.Native.Nat.{ℕ, zero, suc, _+_, _^_, _≤_, _<_}
+use Prim.Native.Nat.{ℕ, suc, _+_, _^_, _≤_, _<_}
 use native.Mathlib.Numerals.{add-one}
 use native.Mathlib.Omega.{arith}
 use lib.Bits.{bitOr, or-zero-r}
@@ -17,7 +17,7 @@ use Rattle.mask.specs.Sets.{In}
 use Rattle.offset.specs.Places.{natural, placeOf, spanOf}
 use Rattle.offset.specs.Universe.{le-span, place-range, place-value, diff-moved}
 use Rattle.rules.specs.Sets.{Chutes, has, keep}
-use Rattle.rules.proofs.SetLaws.{has-head, has-tail}
+use Rattle.rules.proofs.SetLaws.{has-at, every-at, every-of}
 use Rattle.rules.proofs.Tests.{and-right, and-both, is-true, true-is}
 use Rattle.rules.specs.declared.Refusal.the-variants.{TooWide}
 use Rattle.domain.specs.Set.{bitsOf, range}
@@ -29,7 +29,6 @@ use Rattle.domain.proofs.Laws.{From, from-offset, bits-in, in-bits, range-bits}
 use Rattle.domain_values.specs.Calls.{within, among, nothing, spread, fromValuesOf, tryFromValuesOf}
 use Rattle.ends.specs.Ends.{smallestOf, largestOf}
 use Rattle.ends.proofs.Firsts.{smallest-least, largest-most}
-use Rattle.domain_values.proofs.Every.{every-at, every-of}
 
 -- each value stands from the smallest to the largest
 pub spread-within : (vs : Chutes) → within (smallestOf vs) (largestOf vs) vs ≡ true
@@ -44,11 +43,6 @@ spread-within (x ∷ s) =
 
 or-assoc : (a b c : ℕ) → bitOr a (bitOr b c) ≡ bitOr (bitOr a b) c
 or-assoc a b c = ext (bitOr a (bitOr b c)) (bitOr (bitOr a b) c) (λ j. omega (arith, bit-or a (bitOr b c) j, bit-or b c j, bit-or (bitOr a b) c j, bit-or a b j))
-
-has-at : (l : Chutes) (i : ℕ) → i < length l → T (has (getD l i (pos 0)) l)
-has-at [] i h = absurd (omega arith)
-has-at (x ∷ l) zero h = has-head x l
-has-at (x ∷ l) (suc i) h = has-tail (getD l i (pos 0)) x l (has-at l i (omega arith))
 
 module _ (lo hi : ℤ) (vs : Chutes) (w : within lo hi vs ≡ true) where
   pub between : (x : ℤ) → T (has x vs) → T (leZ lo x && leZ x hi)

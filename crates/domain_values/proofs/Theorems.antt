@@ -2,7 +2,7 @@
 -- exactly those. `Fit` and `SFits` hold of whatever a program holds: each word is a word, each bound an i32. Assumes nothing.
 use mathlib.Core.Path.{_≡_, refl, sym, ap, _∙_, subst}
 use mathlib.Core.Bool.{Bool, true, false, cond}
-use mathlib.Core.List.{List, [], _∷_, _++_, map}
+use mathlib.Core.List.{List, [], _∷_, _++_}
 use Prim.Native.Nat.{ℕ, zero, suc, _+_, _^_, _≤_, _<_}
 use native.Mathlib.Nat.{lt-of-lt-of-le}
 use native.Mathlib.Omega.{arith}
@@ -17,13 +17,13 @@ use mir.Val.{SFits}
 use borrow.Author.Tests.{lt-ltb, le-ltb, ltb-false, le-leb, lt-leb, leb-true, ne-eqb}
 use Rattle.mask.specs.Bit.{bitMinus, has-lowest, pos-of-ne}
 use Rattle.mask.specs.Val.{val, offsets, Fit, val-lt, maskOf, mask-fit, val-mask}
-use Rattle.mask.specs.Sets.{In, members, fits-in, minus-below}
+use Rattle.mask.specs.Sets.{In, fits-in, minus-below}
 use Rattle.mask.specs.Tests.{same-test}
 use Rattle.mask.specs.declared.Mask.{Mask}
 use Rattle.offset.specs.Places.{natural, spanOf}
 use Rattle.offset.specs.Universe.{le-span, span-le, value-le}
 use Rattle.rules.specs.Sets.{ascending, Chutes, has, keep, every}
-use Rattle.rules.proofs.SetLaws.{has-head}
+use Rattle.rules.proofs.SetLaws.{has-head, every-of}
 use Rattle.rules.proofs.Tests.{and-left, and-right, is-true, true-is}
 use Rattle.rules.specs.declared.Refusal.{Refusal}
 use Rattle.rules.specs.declared.Refusal.the-variants.{Broken, NoRoom}
@@ -31,7 +31,7 @@ use Rattle.domain.specs.Set.{valuesOf, setOf, range, width, well, bitsOf}
 use Rattle.domain.specs.Calls.{invalid, narrow}
 use Rattle.domain.specs.declared.BitDomain.{BitDomain}
 use Rattle.domain.specs.declared.Counted.the-variants as counted
-use Rattle.domain.proofs.Laws.{in-values, values-offset, bits-in, in-bits}
+use Rattle.domain.proofs.Laws.{in-values, values-offset, same-mask, bits-in, in-bits}
 use Rattle.domain.proofs.Places.{well-width, well-in}
 use Rattle.domain_values.specs.Calls.{leftIn, wellCursor, cursorOf, iterOf, leaving, stepOf, nextOf, Written, written, inFront, toVecOf, within, among, nothing, fromValuesOf}
 use Rattle.ends.specs.Ends.{smallestOf, largestOf}
@@ -40,7 +40,6 @@ use Rattle.domain_values.specs.declared.Begun.the-variants as begun
 use Rattle.domain_values.specs.declared.BitCursor.{BitCursor}
 use Rattle.domain_values.specs.declared.Stepped.{Stepped}
 use Rattle.domain_values.specs.declared.Yielded.the-variants as yielded
-use Rattle.domain_values.proofs.Every.{every-of}
 use Rattle.domain_values.proofs.Walk.{bits-values}
 use Rattle.domain.proofs.Ends.{values-first, none-values}
 use Rattle.domain.proofs.Theorems.{values-ascend}
@@ -51,13 +50,9 @@ use Rattle.domain_values.proofs.Spread.{spread-within, between, from-wi
 
 -- ---- a walk
 
-same-values : (lo : ℤ) (m r : Mask) → val m ≡ val r → valuesOf lo m ≡ valuesOf lo r
-unfolding valuesOf
-same-values lo m r e = ap (λ (n : ℕ). map (λ k. lo +ℤ pos k) (members n)) e
-
 -- a cursor that a step leaves has just the rest still to yield
 leaving-left : (c : BitCursor) (x : ℤ) (s : Chutes) → Fit (c .mask) → leftIn c ≡ x ∷ s → leftIn (leaving c s) ≡ s
-leaving-left c x s f e = same-values lo (maskOf (bitsOf lo s)) r (ap (λ (n : ℕ). val (maskOf n)) bits-are ∙ val-mask (bitMinus n (2 ^ k)) small ∙ sym r-is) ∙ sym s-is
+leaving-left c x s f e = same-mask lo (maskOf (bitsOf lo s)) r (ap (λ (n : ℕ). val (maskOf n)) bits-are ∙ val-mask (bitMinus n (2 ^ k)) small ∙ sym r-is) ∙ sym s-is
   where
     lo : ℤ
     lo = c .min

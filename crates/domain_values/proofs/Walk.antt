@@ -27,7 +27,7 @@ use Rattle.domain_values.specs.Calls.{leftIn, wellCursor, nextOf}
 use Rattle.domain_values.specs.declared.BitCursor.{BitCursor}
 use Rattle.domain_values.specs.declared.Stepped.{Stepped}
 use Rattle.domain_values.specs.declared.Yielded.the-variants as yielded
-use Rattle.domain_values.proofs.Every.{every-at, every-of}
+use Rattle.rules.proofs.SetLaws.{every-at, every-of}
 
 -- ---- the values of a mask
 

@@ -3,15 +3,15 @@ use mathlib.Core.Path.{_≡_, refl, sym, ap, _∙_}
 use mathlib.Core.Bool.{Bool, true, false, not, _&&_, _||_, cond, true≢false}
 use mathlib.Core.List.{[], _∷_, _++_}
 use mathlib.Core.Logic.{_⊎_, inl, inr, ⊎-elim}
-use Prim.Native.Nat.{suc, _≤_, _<_, zero-le}
+use Prim.Native.Nat.{ℕ, zero, suc, _≤_, _<_, zero-le}
 use native.Mathlib.Nat.{le-trans, lt-irrefl, le-antisymm}
 use native.Mathlib.Omega.{arith}
 use lib.Dec.{T, eqb→eq, eqb-refl, ltb, lt→ltb, ltb→lt, T-not, not-T}
-use lib.ListN.{length}
+use lib.ListN.{length, getD}
 use lib.IntN.{ℤ, pos, negsuc}
-use Rattle.rules.specs.Sets.{Chutes, same, has, some, keep, strike, once, Different, Within}
+use Rattle.rules.specs.Sets.{Chutes, same, has, some, every, keep, strike, once, Different, Within}
 use Rattle.rules.specs.Pass.{lost}
-use Rattle.rules.proofs.Tests.{or-cases, or-left, or-right, and-left, and-both, and-false, is-true, is-false, true-is}
+use Rattle.rules.proofs.Tests.{or-cases, or-left, or-right, and-left, and-right, and-both, and-false, is-true, is-false, true-is}
 
 -- ---- one chute
 
@@ -35,6 +35,20 @@ has-head x s = or-left (same x x) (has x s) (same-refl x)
 
 pub has-tail : (x y : ℤ) (s : Chutes) → T (has x s) → T (has x (y ∷ s))
 has-tail x y s h = or-right (same x y) (has x s) h
+
+pub has-at : (s : Chutes) (i : ℕ) → i < length s → T (has (getD s i (pos 0)) s)
+has-at [] i h = absurd (omega arith)
+has-at (x ∷ s) zero h = has-head x s
+has-at (x ∷ s) (suc i) h = has-tail (getD s i (pos 0)) x s (has-at s i (omega arith))
+
+-- a test of all members is passed exactly if each passes
+pub every-at : (p : ℤ → Bool) (s : Chutes) → T (every p s) → (x : ℤ) → T (has x s) → T (p x)
+every-at p [] t x h = absurd h
+every-at p (y ∷ s) t x h = ⊎-elim (λ e. rw e (and-left (p y) (every p s) t)) (λ m. every-at p s (and-right (p y) (every p s) t) x m) (has-cons x y s h)
+
+pub every-of : (p : ℤ → Bool) (s : Chutes) → ((x : ℤ) → T (has x s) → T (p x)) → T (every p s)
+every-of p [] f = tt
+every-of p (y ∷ s) f = and-both (p y) (every p s) (f y (has-head y s)) (every-of p s (λ x h. f x (has-tail x y s h)))
 
 pub has-some : (x : ℤ) (s : Chutes) → T (has x s) → some s ≡ true
 has-some x [] h = absurd h
@@ -142,11 +156,14 @@ once-same (x ∷ s) d = go (once-same s (d .1)) (has x s) (d .0)
 
 -- ---- whether something is lost
 
+pub lost-same : (s : Chutes) → lost s s ≡ false
+lost-same s = is-false (ltb (length s) (length s)) (λ t. lt-irrefl (length s) (ltb→lt (length s) (length s) t))
+
 pub lost-one : (p : ℤ → Bool) (x : ℤ) (s : Chutes) → T (has x s) → p x ≡ false → lost (keep p s) s ≡ true
 lost-one p x s h e = is-true (lost (keep p s) s) (lt→ltb (length (keep p s)) (length s) (shorter p x s h e))
 
 pub lost-none : (p : ℤ → Bool) (s : Chutes) → ((x : ℤ) → T (has x s) → T (p x)) → lost (keep p s) s ≡ false
-lost-none p s h = rw (keep-all p s h) (is-false (ltb (length s) (length s)) (λ t. lt-irrefl (length s) (ltb→lt (length s) (length s) t)))
+lost-none p s h = rw (keep-all p s h) (lost-same s)
 
 -- a removal loses something exactly if it changes membership
 pub lost-member : (v : ℤ) (s : Chutes) → lost (keep (λ x. not (same x v)) s) s ≡ has v s

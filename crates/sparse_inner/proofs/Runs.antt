@@ -11,7 +11,8 @@ use Rattle.order.proofs.Orders.{length-swapped, not-yes}
 use Rattle.rules.proofs.Tests.{and-false}
 use Rattle.sparse_inner.specs.Set.{Full, Held, WellF}
 use Rattle.sparse_inner.specs.Change.{resized, holdsAt, dropped, dropAt, dropWhere, dropRun, emptied, fromCut, underCut}
-use Rattle.sparse_inner.proofs.Sets.{held-of, of-held, true-false, and-true, left-held, left-ne, stays-held}
+use Rattle.rules.proofs.Tests.{and-true}
+use Rattle.sparse_inner.proofs.Sets.{held-of, of-held, true-false, left-held, left-ne, stays-held}
 use Rattle.sparse_inner.proofs.Drops.{drop-held, drop-none, drop-at-well}
 
 -- ---- what a drop holds: what was held, but o

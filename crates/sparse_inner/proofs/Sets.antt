@@ -1,7 +1,7 @@
 -- The laws of a sparse set: its test of an offset, the bounds that a scan finds, and what dropping an offset leaves. Assumes nothing.
 use mathlib.Core.Path.{_≡_, refl, sym, _∙_, subst}
 use mathlib.Core.Logic.{_≢_, _⊎_, ⊎-elim, inl, inr}
-use mathlib.Core.Bool.{Bool, true, false, cond, _&&_}
+use mathlib.Core.Bool.{Bool, true, false, cond}
 use mathlib.Core.List.{List}
 use Prim.Native.Nat.{ℕ, zero, suc, _+_, _-_, _≤_, _<_}
 use native.Mathlib.Decide.{ℕ-discrete}
@@ -96,10 +96,6 @@ module _ (ind : List ℕ) (n size min max o : ℕ) (pos : 0 < size) (S : Spans i
 -- ---- the greatest and the least number that a test takes
 pub true-false : (b : Bool) → b ≡ true → b ≡ false → ⊥
 true-false b p q = let z : _≡_ {A = Bool} true false = cc in let y : _≡_ {A = ℕ} 0 1 = cc in omega arith
-
-pub and-true : (b : Bool) → b && true ≡ b
-and-true true = refl
-and-true false = refl
 
 pub high-is : (p : ℕ → Bool) (n r : ℕ) → r < n → p r ≡ true → ((k : ℕ) → k < n → p k ≡ true → k ≤ r) → highest p n ≡ r
 unfolding highest

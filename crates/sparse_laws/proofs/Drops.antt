@@ -17,8 +17,8 @@ use Rattle.rules.specs.Sets.{same}
 use Rattle.order.proofs.Orders.{not-yes, length-swapped}
 use Rattle.sparse_inner.specs.Set.{Full, heldB, WellF, placeIn, isHeld}
 use Rattle.sparse_inner.specs.Change.{holdsAt, dropAt, dropWhere, dropRun, emptied, alone, onlyAt, fromCut, underCut}
-use Rattle.rules.proofs.Tests.{and-false}
-use Rattle.sparse_inner.proofs.Sets.{held-of, of-held, and-true}
+use Rattle.rules.proofs.Tests.{and-true, and-false}
+use Rattle.sparse_inner.proofs.Sets.{held-of, of-held}
 use Rattle.sparse_inner.proofs.Only.{only-o, o-held}
 use Rattle.sparse_inner.proofs.Runs.{Frame, drop-holds, drop-frame, hold-of, where-well, where-frame, low-idle, high-idle}
 use Rattle.sparse_laws.proofs.Held.{same-place}

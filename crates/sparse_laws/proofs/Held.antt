@@ -4,7 +4,7 @@ use mathlib.Core.Path.{_≡_, refl, sym, ap, _∙_, subst}
 use mathlib.Core.Bool.{Bool, true, false}
 use mathlib.Core.List.{[], _∷_}
 use mathlib.Core.Logic.{⊎-elim}
-use Prim.Native.Nat.{ℕ, zero, suc, _<_}
+use Prim.Native.Nat.{ℕ, suc, _<_}
 use native.Mathlib.Decide.{ℕ-discrete}
 use native.Mathlib.Omega.{arith}
 use lib.Dec.{T, eqb}
@@ -14,7 +14,7 @@ use lib.Signed.{leZ}
 use borrow.Author.Tests.{eq-eqb, ne-eqb, le-leb}
 use Rattle.offset.specs.Universe.{place-value, value-place, value-inj, value-le}
 use Rattle.rules.specs.Sets.{Chutes, has, same, Different}
-use Rattle.rules.proofs.SetLaws.{has-cons, has-head, has-tail, same→eq, same-refl}
+use Rattle.rules.proofs.SetLaws.{has-cons, has-at, same→eq, same-refl}
 use Rattle.rules.proofs.Tests.{is-true, is-false, true-is}
 use Rattle.sparse_inner.specs.declared.Sparse.{Sparse}
 use Rattle.sparse_inner.specs.Set.{Full, Held, WellF, placeIn, valueAt, setOf, isHeld}
@@ -24,11 +24,6 @@ use Rattle.sparse_inner.proofs.Runs.{hold-of, of-hold}
 use Rattle.sparse_inner.proofs.Values.{length-set, cell-is, well-room}
 
 -- ---- members of a list by their place
-pub has-at : (l : Chutes) (k : ℕ) → k < length l → T (has (getD l k (pos 0)) l)
-has-at [] k h = absurd (omega arith)
-has-at (x ∷ l) zero h = has-head x l
-has-at (x ∷ l) (suc k) h = has-tail (getD l k (pos 0)) x l (has-at l k (omega arith))
-
 pub record Place (z : ℤ) (l : Chutes) : Type 0 where
   pub at : ℕ
   pub lt : at < length l

@@ -20,7 +20,7 @@ use Rattle.order.specs.Order.{counted}
 use Rattle.order.proofs.Counted.{counted-at}
 use Rattle.rules.specs.Sets.{Chutes, has}
 use Rattle.rules.proofs.Tests.{is-true, true-is, and-false}
-use Rattle.sparse_inner.proofs.Sets.{and-true}
+use Rattle.rules.proofs.Tests.{and-true}
 use Rattle.sparse_inner.specs.Set.{Full, heldB, WellF, placeIn, valueAt, isHeld}
 use Rattle.sparse_inner.specs.Change.{holdsAt, dropWhere, dropAt}
 use Rattle.sparse_inner.proofs.Runs.{drop-holds, where-well, where-frame}

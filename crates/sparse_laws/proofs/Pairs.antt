@@ -12,11 +12,11 @@ use borrow.Author.Tests.{ltb-true, eq-eqb, ne-eqb}
 use Rattle.offset.specs.Places.{placeOf}
 use Rattle.order.proofs.Orders.{not-yes, length-swapped}
 use Rattle.rules.specs.Sets.{Chutes, has, same, keep, every, Within}
-use Rattle.rules.proofs.SetLaws.{has-keep, has-head, has-tail, has-cons, same→eq, covers, same-size}
-use Rattle.rules.proofs.Tests.{true-is, and-left, and-right, and-both, or-false, or-true}
+use Rattle.rules.proofs.SetLaws.{has-keep, every-at, every-of, same→eq, covers, same-size}
+use Rattle.rules.proofs.Tests.{true-is, and-true, or-false, or-true}
 use Rattle.sparse_inner.specs.Set.{Full, Held, heldB, WellF, placeIn, setOf, isHeld}
 use Rattle.sparse_inner.specs.Change.{holdsAt, dropAt, added, addAt, resized}
-use Rattle.sparse_inner.proofs.Sets.{true-false, and-true, held-of, of-held}
+use Rattle.sparse_inner.proofs.Sets.{true-false, held-of, of-held}
 use Rattle.sparse_inner.proofs.Drops.{drop-at-well}
 use Rattle.sparse_inner.proofs.Adds.{add-at-well, new-held, old-held, held-before, not-held}
 use Rattle.sparse_inner.proofs.Runs.{Frame, frame-same, frame-trans, drop-frame, hold-of, of-hold}
@@ -160,14 +160,6 @@ pub union-holds : (f g : Full) → WellF f → WellF g → (z : ℤ) → isHeld 
 union-holds f g U W z = added-holds f (setOf g) U z ∙ ap (λ (b : Bool). isHeld f z || (b && inside f z)) (members g W z)
 
 -- ---- subset and equality
-every-of : (p : ℤ → Bool) (l : Chutes) → ((z : ℤ) → T (has z l) → T (p z)) → T (every p l)
-every-of p [] h = tt
-every-of p (x ∷ l) h = and-both (p x) (every p l) (h x (has-head x l)) (every-of p l (λ z t. h z (has-tail z x l t)))
-
-every-at : (p : ℤ → Bool) (l : Chutes) → T (every p l) → (z : ℤ) → T (has z l) → T (p z)
-every-at p [] h z t = absurd t
-every-at p (x ∷ l) h z t = ⊎-elim (λ (e : z ≡ x). rw e (and-left (p x) (every p l) h)) (λ m. every-at p l (and-right (p x) (every p l) h) z m) (has-cons z x l t)
-
 module _ (f g : Full) (W : WellF g) where
   pub subset-within : T (every (isHeld g) (setOf f)) → Within (setOf f) (setOf g)
   subset-within h z t = rw (members g W z) (every-at (isHeld g) (setOf f) h z t)

@@ -1,7 +1,7 @@
 -- What additions leave of the order: each new value comes behind those that are held. Assumes nothing.
 use mathlib.Core.Path.{_≡_, refl, sym, ap, _∙_, subst}
 use mathlib.Core.Bool.{Bool, true, false, not, cond, _&&_, _||_}
-use mathlib.Core.List.{List, [], _∷_, _++_, map, append-assoc, append-nil}
+use mathlib.Core.List.{List, [], _∷_, _++_, map, map-append, append-assoc, append-nil}
 use Prim.Native.Nat.{ℕ, _+_, _≤_, _<_}
 use native.Mathlib.Numerals.{add-one}
 use native.Mathlib.Omega.{arith}
@@ -22,7 +22,7 @@ use Rattle.sparse_inner.proofs.Adds.{add-at-well, not-held}
 use Rattle.sparse_pairs.specs.Calls.{addEach}
 use Rattle.sparse_laws.proofs.Held.{members}
 use Rattle.sparse_laws.proofs.Pairs.{inside}
-use Rattle.sparse_order.proofs.Lists.{map-append, keep-same}
+use Rattle.sparse_order.proofs.Lists.{keep-same}
 
 -- ---- one value
 -- exchanged with cell n, and one cell more taken

@@ -1,7 +1,7 @@
 -- What drops leave of the order: the last held value takes the place of each dropped one, one after the other. Assumes nothing.
 use mathlib.Core.Path.{_≡_, refl, sym, ap, _∙_}
 use mathlib.Core.Bool.{Bool, true, false, cond}
-use mathlib.Core.List.{List, [], _∷_, _++_, map, append-nil}
+use mathlib.Core.List.{List, [], _∷_, _++_, map, map-append, append-nil}
 use Prim.Native.Nat.{ℕ, zero, suc, _+_, _-_, _≤_, _<_}
 use native.Mathlib.Omega.{arith}
 use lib.IntN.{ℤ, pos, _+ℤ_, _-ℤ_}
@@ -20,7 +20,7 @@ use Rattle.sparse_inner.proofs.Values.{cell-is, well-room}
 use Rattle.sparse_pairs.specs.Calls.{dropEach}
 use Rattle.sparse_laws.proofs.Held.{members, size-is}
 use Rattle.sparse_order.specs.Order.{swapOut, swapOuts, justOf, toFront, cellsOf}
-use Rattle.sparse_order.proofs.Lists.{map-take, map-set, map-append, front-at, swap-at, swap-none, outs-append}
+use Rattle.sparse_order.proofs.Lists.{map-take, map-set, front-at, swap-at, swap-none, outs-append}
 
 -- ---- a held value stands in the cell that ind names, and in no other
 module _ (f : Full) (W : WellF f) (v : ℤ) (H : Held (f .ind) (f .set .n) (f .set .size) (placeIn (f .set) v)) where
@@ -128,6 +128,11 @@ unfoldable pub picked : (ℕ → Bool) → ℤ → ℕ → ℕ → Chutes
 picked p off from zero = []
 picked p off from (suc k) = picked p off from k ++ cond (p (from + k)) ((off +ℤ pos (from + k)) ∷ []) []
 
+-- in a set over the same universe, an offset is the place of its value
+pub frame-place : (f g : Full) → Frame f g → (o : ℕ) → o < f .set .n → placeIn (g .set) (f .set .off +ℤ pos o) ≡ o
+frame-place f g F o h =
+    ap (λ (z : ℤ). placeOf (g .set .n) ((z +ℤ pos o) -ℤ g .set .off)) (sym (F .off)) ∙ value-place (g .set .off) (g .set .n) o (omega (arith, F .n))
+
 pub where-order : (p : ℕ → Bool) (f : Full) (from k : ℕ) → WellF f → from + k ≤ f .set .n → setOf (dropWhere p f from k) ≡ swapOuts (picked p (f .set .off) from k) (setOf f)
 unfolding dropWhere picked swapOuts
 where-order p f from zero W h = refl
@@ -142,12 +147,8 @@ where-order p f from (suc k) W h = go (p (from + k)) (where-order p f from k W (
     z : ℤ
     z = f .set .off +ℤ pos (from + k)
 
-    F : Frame f g
-    F = where-frame p f from k
-
-    -- the offset is the place of its value
     there : placeIn (g .set) z ≡ from + k
-    there = ap (λ (o : ℤ). placeOf (g .set .n) ((o +ℤ pos (from + k)) -ℤ g .set .off)) (sym (F .off)) ∙ value-place (g .set .off) (g .set .n) (from + k) (omega (arith, F .n))
+    there = frame-place f g (where-frame p f from k) (from + k) (omega arith)
 
     go : (b : Bool) → setOf g ≡ swapOuts us (setOf f) → setOf (cond b (dropAt g (from + k)) g) ≡ swapOuts (us ++ cond b (z ∷ []) []) (setOf f)
     go true ih =

@@ -24,10 +24,6 @@ map-set g [] i a = refl
 map-set g (x ∷ l) zero a = refl
 map-set {A} {B} g (x ∷ l) (suc i) a = ap (λ (u : List B). g x ∷ u) (map-set g l i a)
 
-pub map-append : {A B : Type 0} (g : A → B) (l m : List A) → map g (l ++ m) ≡ map g l ++ map g m
-map-append g [] m = refl
-map-append {A} {B} g (x ∷ l) m = ap (λ (u : List B). g x ∷ u) (map-append g l m)
-
 -- ---- taking one value out
 lead : (y : ℤ) (l : Chutes) (n : ℕ) → n ≡ length l → lastFirst l ≡ set (take n (y ∷ l)) 0 (getD (y ∷ l) n (pos 0))
 lead y [] n e = rw e

@@ -1,7 +1,7 @@
 -- The order in which a set is made: ascending, and from values the absent ones are taken out of it in ascending order. Assumes nothing.
 use mathlib.Core.Path.{_≡_, refl, sym, ap, _∙_, subst}
 use mathlib.Core.Bool.{Bool, true, not}
-use mathlib.Core.List.{List, [], _∷_, _++_, map}
+use mathlib.Core.List.{List, [], _∷_, _++_, map, map-append}
 use Prim.Native.Nat.{ℕ, zero, suc, _+_, _≤_}
 use native.Mathlib.Omega.{arith}
 use lib.Dec.{T}
@@ -32,7 +32,7 @@ use Rattle.sparse_laws.proofs.Made.{from-values-holds}
 use Rattle.sparse_laws.proofs.Theorems.{Holds}
 use Rattle.sparse_order.specs.Order.{swapOuts, onto, upFrom}
 use Rattle.sparse_order.specs.Walk.{restOf}
-use Rattle.sparse_order.proofs.Lists.{map-append, keep-same}
+use Rattle.sparse_order.proofs.Lists.{keep-same}
 use Rattle.sparse_order.proofs.Drops.{where-order}
 use Rattle.sparse_order.proofs.Runs.{keep-picked}
 use Rattle.sparse_order.proofs.Rest.{where-rest}

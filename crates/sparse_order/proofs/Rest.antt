@@ -3,29 +3,27 @@
 use mathlib.Core.Path.{_≡_, refl, sym, ap, _∙_, subst}
 use mathlib.Core.Logic.{⊎-elim}
 use mathlib.Core.Bool.{Bool, true, false, not, cond, _&&_}
-use mathlib.Core.List.{List, [], _∷_, _++_, map, append-nil}
+use mathlib.Core.List.{List, [], _∷_, _++_, map, map-append, append-nil}
 use Prim.Native.Nat.{ℕ, zero, suc, _+_, _-_, _≤_, _<_}
 use native.Mathlib.Nat.{eq-or-lt-of-le}
 use native.Mathlib.Numerals.{add-one}
 use native.Mathlib.Omega.{arith}
 use lib.Dec.{T, T-not}
-use lib.IntN.{ℤ, pos, _+ℤ_, _-ℤ_}
+use lib.IntN.{ℤ, pos, _+ℤ_}
 use lib.ListN.{length, getD, take, drop, set, length-set, length-drop, length-map, take-append-drop}
 use lib.Seq.{drop-append-le, drop-set-add, getD-drop, take-set-lt, drop-set-lt, drop-cons, getD-set-same, getD-take, length-take-le, take-take}
 use borrow.Author.Tests.{ne-eqb, ltb-true, lt-ltb, le-ltb}
-use Rattle.offset.specs.Places.{placeOf}
 use Rattle.offset.specs.Universe.{place-value, value-place, value-inj}
 use Rattle.order.specs.Order.{swapped}
 use Rattle.order.proofs.Orders.{length-swapped}
 use Rattle.rules.specs.Sets.{Chutes, has, same, keep, Different}
 use Rattle.rules.proofs.SetLaws.{same→eq, same-refl, has-head, has-tail}
-use Rattle.rules.proofs.Tests.{is-true, is-false}
+use Rattle.rules.proofs.Tests.{is-true, is-false, and-true}
 use Rattle.sparse_inner.specs.Set.{Full, Held, WellF, placeIn, valueAt, setOf, isHeld}
 use Rattle.sparse_inner.specs.Change.{holdsAt, resized, dropped, dropAt, dropWhere, dropRun, added, addAt, alone, emptied, fromCut, underCut}
 use Rattle.sparse_inner.proofs.Drops.{drop-held, drop-none, drop-at-well}
-use Rattle.sparse_inner.proofs.Runs.{Frame, hold-of, drop-holds, where-well, where-frame}
+use Rattle.sparse_inner.proofs.Runs.{hold-of, drop-holds, where-well, where-frame}
 use Rattle.sparse_inner.proofs.Adds.{add-at-well, not-held}
-use Rattle.sparse_inner.proofs.Sets.{and-true}
 use Rattle.sparse_pairs.proofs.Each.{keep-append}
 use Rattle.sparse_pairs.specs.Calls.{dropEach, addEach}
 use Rattle.sparse_laws.proofs.Held.{members}
@@ -33,8 +31,8 @@ use Rattle.sparse_laws.proofs.Drops.{remove-holds}
 use Rattle.sparse_laws.proofs.Pairs.{inside}
 use Rattle.sparse_order.specs.Order.{onto, instead, toFront, swapIn, swapIns, cellsOf}
 use Rattle.sparse_order.specs.Walk.{restOf}
-use Rattle.sparse_order.proofs.Lists.{map-set, map-append, instead-at, keep-same}
-use Rattle.sparse_order.proofs.Drops.{picked, alone-cells}
+use Rattle.sparse_order.proofs.Lists.{map-set, instead-at, keep-same}
+use Rattle.sparse_order.proofs.Drops.{picked, frame-place, alone-cells}
 use Rattle.sparse_order.proofs.Adds.{fresh, still-new}
 
 -- ---- an exchange, seen from its later place on
@@ -126,14 +124,11 @@ where-rest p f from (suc k) W h = go (p (from + k)) (where-rest p f from k W (om
     q : ℤ → Bool
     q x = has x (setOf f)
 
-    F : Frame f g
-    F = where-frame p f from k
-
     U : WellF g
     U = where-well p f from k W
 
     there : placeIn (g .set) z ≡ from + k
-    there = ap (λ (o : ℤ). placeOf (g .set .n) ((o +ℤ pos (from + k)) -ℤ g .set .off)) (sym (F .off)) ∙ value-place (g .set .off) (g .set .n) (from + k) (omega (arith, F .n))
+    there = frame-place f g (where-frame p f from k) (from + k) (omega arith)
 
     still : has z (setOf g) ≡ has z (setOf f)
     still =

@@ -14,7 +14,7 @@ use Rattle.domain.proofs.Ends.{none-test}
 use Rattle.masks.specs.Cells.{Room, maskAt, putAt}
 use Rattle.masks.proofs.Laws.{room-put, at-put, at-other}
 use Rattle.sweep.specs.Listed.{Struck}
-use Rattle.sweep.proofs.Values.{lost-same}
+use Rattle.rules.proofs.SetLaws.{lost-same}
 
 module _ (u : Chutes) (lo : ℤ) (q : ℕ) (before : List ℕ) (room : Room before) where
   -- nothing to strike

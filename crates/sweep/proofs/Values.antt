@@ -5,23 +5,23 @@ use mathlib.Core.List.{[], _∷_, _++_}
 use mathlib.Core.Logic.{⊎-elim}
 use Prim.Native.Nat.{ℕ, suc, _-_, _^_, _≤_, _<_}
 use native.Mathlib.Omega.{arith}
-use lib.Dec.{T, ltb, ltb→lt, T-not, not-T}
+use lib.Dec.{T, T-not, not-T}
 use lib.ListN.{length}
 use lib.IntN.{ℤ, pos, _+ℤ_, _-ℤ_}
 use borrow.Author.Tests.{ltb-false}
 use Rattle.mask.specs.Bit.{bitMinus}
 use Rattle.mask.specs.Val.{val, offsets, Fit, val-lt}
-use Rattle.mask.specs.Sets.{In, in-minus, in-without, in-lt, same-set}
+use Rattle.mask.specs.Sets.{In, in-minus, in-without, in-lt}
 use Rattle.mask.specs.declared.Mask.{Mask}
 use Rattle.offset.specs.Places.{placeOf}
-use Rattle.offset.specs.Universe.{place-value, value-place}
+use Rattle.offset.specs.Universe.{place-value, value-place, value-inj}
 use Rattle.rules.specs.Sets.{Chutes, has, keep, strike, Within}
 use Rattle.rules.specs.Pass.{lost}
-use Rattle.rules.proofs.Tests.{and-left, and-right, and-both, is-true, is-false}
+use Rattle.rules.proofs.Tests.{and-left, and-right, and-both, is-true}
 use Rattle.rules.proofs.SetLaws.{has-cons, has-head, has-append, has-strike, keep-all, length-keep, lost-one}
 use Rattle.rules.proofs.InOrder.{ascending-keep, ascending-unique}
 use Rattle.domain.specs.Set.{valuesOf}
-use Rattle.domain.proofs.Laws.{shift-inj, in-values, values-in, values-offset}
+use Rattle.domain.proofs.Laws.{in-values, values-in, values-offset, same-values}
 use Rattle.domain.proofs.Theorems.{values-ascend}
 
 -- ---- a strike, bit by bit
@@ -57,7 +57,7 @@ module _ (lo v : ℤ) (m : Mask) where
       there : (j : ℕ) → In (val e) j → In (val m) j × T (not (has (lo +ℤ pos j) (v ∷ [])))
       there j h =
           let w = in-without (val m) k j .0 (subst (λ (n : ℕ). In n j) b h) in
-          (w .0, not-T (has (lo +ℤ pos j) (v ∷ [])) (λ t. w .1 (shift-inj lo j k (one-of (lo +ℤ pos j) v t ∙ q))))
+          (w .0, not-T (has (lo +ℤ pos j) (v ∷ [])) (λ t. w .1 (value-inj lo j k (one-of (lo +ℤ pos j) v t ∙ q))))
 
       back : (j : ℕ) → In (val m) j → T (not (has (lo +ℤ pos j) (v ∷ []))) → In (val e) j
       back j h t =
@@ -142,12 +142,6 @@ full p (x ∷ s) h = go (p x) h (full p s)
     go true l ih = ap {B = Chutes} (λ r. x ∷ r) (ih (omega arith))
     go false l ih = absurd (omega (arith, length-keep p s))
 
-pub same-values : (lo : ℤ) (e m : Mask) → valuesOf lo e ≡ valuesOf lo m → val e ≡ val m
-same-values lo e m q =
-    same-set (val e) (val m)
-    (λ k h. values-in lo m k (subst (λ (s : Chutes). T (has (lo +ℤ pos k) s)) q (in-values lo e k h)))
-    (λ k h. values-in lo e k (subst (λ (s : Chutes). T (has (lo +ℤ pos k) s)) (sym q) (in-values lo m k h)))
-
 -- a mask with other bits has lost something
 pub lost-some : (lo : ℤ) (m e : Mask) (u : Chutes) → valuesOf lo e ≡ strike u (valuesOf lo m) → (val e ≡ val m → ⊥) → lost (valuesOf lo e) (valuesOf lo m) ≡ true
 lost-some lo m e u q other = go (lost (valuesOf lo e) (valuesOf lo m)) refl
@@ -157,10 +151,3 @@ lost-some lo m e u q other = go (lost (valuesOf lo e) (valuesOf lo m)) refl
     go false t =
         let l : length (valuesOf lo m) ≤ length (strike u (valuesOf lo m)) = subst (λ (s : Chutes). length (valuesOf lo m) ≤ length s) q (ltb-false (length (valuesOf lo e)) (length (valuesOf lo m)) t) in
         absurd (other (same-values lo e m (q ∙ full (λ x. not (has x u)) (valuesOf lo m) l)))
-
--- what has not changed has lost nothing
-pub lost-same : (s : Chutes) → lost s s ≡ false
-lost-same s = is-false (ltb (length s) (length s)) (λ t. less (ltb→lt (length s) (length s) t))
-  where
-    less : length s < length s → ⊥
-    less h = omega arith
