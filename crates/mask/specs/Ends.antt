@@ -24,10 +24,7 @@ between-up from to (pos k) e = (tt, go (leb from k) refl e)
     go true p q = (leb-true from k p, ltb-true k to q)
     go false p q = absurd (true≢false (sym q))
 
--- an offset is not below 0, and there is room for it
-pub offset-up : (k : ℤ) → isOffset k ≡ true → T (nonNeg k) × (natAbs k < offsets)
-offset-up k e = let u = between-up 0 offsets k e in (u .0, u .1 .1)
-
+-- a number with room is an offset
 pub up-offset : (k : ℕ) → k < offsets → isOffset (pos k) ≡ true
 up-offset k h = rw (leb·zero k, lt-ltb k offsets h)
 

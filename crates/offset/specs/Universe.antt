@@ -261,12 +261,3 @@ apart (negsuc a) d f g = go (ltb d (suc a)) refl (g .sfits)
 
 pub value-in : (lo hi : ℤ) (k : ℕ) → SFits w32 lo → SFits w32 hi → k < spanOf lo hi → SFits w32 (lo +ℤ pos k)
 value-in lo hi k f g h = between lo (spanOf lo hi - 1) k f (subst (λ (z : ℤ). SFits w32 z) (span-last lo hi (omega arith)) g) (omega arith)
-
-pub span-small : (lo hi : ℤ) → SFits w32 lo → SFits w32 hi → spanOf lo hi ≤ 2 ^ 32
-span-small lo hi f g = go (spanOf lo hi) refl
-  where
-    go : (n : ℕ) → spanOf lo hi ≡ n → n ≤ 4294967296
-    go zero e = zero-le
-    go (suc n) e =
-        let at : hi ≡ lo +ℤ pos n = span-last lo hi (omega arith) ∙ ap (λ (x : ℕ). lo +ℤ pos (x - 1)) e ∙ ap (λ (x : ℕ). lo +ℤ pos x) (omega arith) in
-        apart lo n f (subst (λ (z : ℤ). SFits w32 z) at g)

@@ -11,7 +11,6 @@ use mir.Syntax.{w32, w64}
 use mir.Val.{Fits, SFits, toZ, ofZ}
 use mir.Facts.{toZ-ofZ}
 use Rattle.offset.specs.Places.{spanOf}
-use Rattle.offset.specs.Universe.{value-in}
 
 -- ---- how large a sum and a difference are
 mag-cond : (t : Bool) (x y h : ℕ) → x ≤ h → y ≤ h → mag (cond t (negsuc x) (pos y)) ≤ h
@@ -88,16 +87,6 @@ read-sum k fa = ap (λ (x : ℤ). x +ℤ pos k) (read32 fa)
 
 pub read-span : {a b : ℤ} → SFits w32 a → SFits w32 b → spanOf (toZ w32 (ofZ w32 a)) (toZ w32 (ofZ w32 b)) ≡ spanOf a b
 read-span fa fb = λ i. spanOf (read32 fa i) (read32 fb i)
-
--- what `value` requires, of an offset in a universe from lo to hi
-pub value-ready : (lo hi : ℤ) (k : ℕ) → SFits w32 lo → SFits w32 hi → k < spanOf lo hi → SFits w32 (toZ w32 (ofZ w32 lo) +ℤ pos k)
-value-ready lo hi k f g h = subst (λ (x : ℤ). SFits w32 x) (sym (read-sum k f)) (value-in lo hi k f g h)
-
--- and what its answer is read as
-pub value-read : {r : ℤ} (lo hi : ℤ) (k : ℕ) → r ≡ toZ w32 (ofZ w32 lo) +ℤ pos k → SFits w32 lo → SFits w32 hi → k < spanOf lo hi → toZ w32 (ofZ w32 r) ≡ lo +ℤ pos k
-value-read lo hi k e f g h =
-    let at = e ∙ read-sum k f in
-    read32 (subst (λ (x : ℤ). SFits w32 x) (sym at) (value-in lo hi k f g h)) ∙ at
 
 -- a difference of two i32s that a call gave as an i64
 module _ {r a b : ℤ} (e : r ≡ toZ w32 (ofZ w32 a) -ℤ toZ w32 (ofZ w32 b)) (fa : SFits w32 a) (fb : SFits w32 b) where
