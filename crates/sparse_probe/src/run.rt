@@ -8,13 +8,15 @@ use probe_parts::lent::least;
 use probe_parts::record;
 use probe_parts::record::Record;
 use probe_parts::regs as words;
-use probe_parts::regs::Register;
 use probe_parts::reply;
+use probe_parts::turn::Turn;
 use probe_parts::turn::after;
 use probe_parts::wire;
-use sparse_inner::Sparse;
 use sparse_probe_calls::change;
-use sparse_probe_parts::lent::Seen;
+use sparse_probe_parts::given;
+use sparse_probe_parts::given::Given;
+use sparse_probe_parts::given::Seen;
+use sparse_probe_parts::lent;
 use sparse_probe_parts::raw;
 use sparse_probe_parts::regs;
 use sparse_probe_parts::seen;
@@ -29,65 +31,94 @@ fn many(w: u64) -> usize
     least(wire::half(w) as usize, 4104)
 }
 
-// What a call is given beside the cells: set a, the other set, and how many cells of each are lent.
-struct Given {
-    old: Register,
-    other: Sparse,
-    here: u64,
-    there: u64,
+// A lent part: where it begins, and where it ends.
+struct Part {
+    start: usize,
+    end: usize,
 }
 
-fn given_to(regs: &[u64; 256], a: usize) -> Given
-    requires { ⌜ a < 2 ⌝ }
+// The part of a set's cells that begins some cells into them. So many as w says are lent, or as there are.
+fn part_of(a: usize, into: usize, w: u64, cells: usize) -> Part
+    requires { ⌜ into < 4 ⌝ }
+    ensures { λ p. ⌜ (p .start ≤ p .end) × (p .end ≤ cells) × (p .end ≤ 8224) ⌝ }
 {
-    Given {
-        old: words::get(regs, a),
-        other: regs::set(words::get(regs, 1 - a)),
-        here: words::get(regs, regs::LENT + a).lo,
-        there: words::get(regs, regs::LENT + 1 - a).lo,
+    let start = least(cells::first(a) + into, cells);
+    Part {
+        start,
+        end: start + least(many(w), cells - start),
     }
 }
 
-// Where a lent part ends: so many cells on, or with the cells.
-fn part_end(start: usize, w: u64, cells: usize) -> usize
-    requires { ⌜ start ≤ cells ⌝ }
-    ensures { λ r. ⌜ (start ≤ r) × (r ≤ cells) ⌝ }
-{
-    start + least(many(w), cells - start)
-}
-
-// The call on the lent parts: two cells into `ind`, three into `val`.
-fn call(
-    r: Record,
-    g: Given,
-    regs: &mut [u64; 256],
-    ind: &mut [u32],
-    val: &mut [u32],
-    tind: &[u32],
-    tval: &[u32],
-    list: &[i32],
-) -> Seen
+// A call on one set: its lent parts begin two cells into `ind`, three into `val`.
+fn on_one(r: Record, g: Given, ind: &mut [u32], val: &mut [u32], list: &[i32]) -> Seen
+    requires { ⌜ r .b < 8 ⌝ }
     ensures { λ s. ⌜ s .behind .many ≤ 1280 ⌝ }
 {
-    let ind_start = least(2, ind.len());
-    let ind_end = part_end(ind_start, g.here, ind.len());
-    let val_start = least(3, val.len());
-    let val_end = part_end(val_start, g.here >> 32, val.len());
-    let tind_start = least(2, tind.len());
-    let tind_end = part_end(tind_start, g.there, tind.len());
-    let tval_start = least(3, tval.len());
-    let tval_end = part_end(tval_start, g.there >> 32, tval.len());
-    change::run(
+    let inds = part_of(g.a, 2, g.here, ind.len());
+    let vals = part_of(g.a, 3, g.here >> 32, val.len());
+    let ind_start = inds.start;
+    let ind_end = inds.end;
+    let val_start = vals.start;
+    let val_end = vals.end;
+    change::one(
         r,
-        regs,
-        g.old,
+        g,
         &mut ind[ind_start..ind_end],
         &mut val[val_start..val_end],
-        g.other,
-        &tind[tind_start..tind_end],
-        &tval[tval_start..tval_end],
         list,
     )
+}
+
+// A call on two sets, of which the other's cells stand alone.
+fn on_two(r: Record, g: Given, ind: &mut [u32], val: &mut [u32], tind: &[u32], tval: &[u32]) -> Seen
+    requires { ⌜ r .b < 8 ⌝ }
+    ensures { λ s. ⌜ s .behind .many ≤ 1280 ⌝ }
+{
+    let inds = part_of(g.a, 2, g.here, ind.len());
+    let vals = part_of(g.a, 3, g.here >> 32, val.len());
+    let tinds = part_of(0, 2, g.there, tind.len());
+    let tvals = part_of(0, 3, g.there >> 32, tval.len());
+    let ind_start = inds.start;
+    let ind_end = inds.end;
+    let val_start = vals.start;
+    let val_end = vals.end;
+    let tind_start = tinds.start;
+    let tind_end = tinds.end;
+    let tval_start = tvals.start;
+    let tval_end = tvals.end;
+    change::two(
+        r,
+        g,
+        &mut ind[ind_start..ind_end],
+        &mut val[val_start..val_end],
+        &tind[tind_start..tind_end],
+        &tval[tval_start..tval_end],
+    )
+}
+
+// Runs a record on set a, once what it sets beside the registers that it is given is set.
+fn run(
+    r: Record,
+    g: Given,
+    ind: &mut [u32; 8224],
+    val: &mut [u32; 8224],
+    list: &[i32; 4112],
+) -> Seen
+    requires { ⌜ (g .a < 2) × (r .b < 8) ⌝ }
+    ensures { λ s. ⌜ s .behind .many ≤ 1280 ⌝ }
+{
+    if raw::sets(r.op) {
+        return raw::run(r, g);
+    }
+    if r.op == 63 {
+        return lent::orderings(r, g, cells::copied(ind, g.a), cells::copied(val, g.a));
+    }
+    if change::is_on_two(r.op) {
+        let tind = cells::copied(ind, 1 - g.a);
+        let tval = cells::copied(val, 1 - g.a);
+        return on_two(r, g, ind, val, &tind, &tval);
+    }
+    on_one(r, g, ind, val, list)
 }
 
 // How many cells go into what is seen of the orderings: those that are lent and some past them.
@@ -102,98 +133,60 @@ fn seen_cells(w: u64) -> usize
     inds + 8
 }
 
-// Puts the set that a record left into register a. The answer tells of cursor b and of the orderings besides.
+// Puts what a record left into the registers. The answer tells of cursor b and of the orderings besides.
 fn finish(
     r: Record,
     a: usize,
     regs: &mut [u64; 256],
     s: Seen,
-    ind: &[u32; 4112],
-    val: &[u32; 4112],
-) -> Seen
+    ind: &[u32; 8224],
+    val: &[u32; 8224],
+) -> Turn
     requires { ⌜ (a < 2) × (r .b < 8) ⌝ }
-    ensures { λ f. ⌜ f .behind .many ≡ s .behind .many ⌝ }
 {
     let t = s.turn;
-    let cells = s.behind;
     words::put(regs, a, t.left);
+    words::put(regs, given::place(r), s.beside);
     let mut left = t.left;
     left.bounds = left.bounds | (words::get(regs, words::CURSORS + r.b).lo << 32);
+    let from = cells::first(a);
+    let end = from + seen_cells(words::get(regs, regs::LENT + a).lo);
     let mut reply = t.reply;
-    reply.hi = seen::orderings(ind, val, seen_cells(words::get(regs, regs::LENT + a).lo));
-    Seen {
-        turn: after(left, reply),
-        behind: cells,
-    }
+    reply.hi = seen::orderings(ind, val, from, end);
+    after(left, reply)
 }
 
-fn on_call(
+// What a record sets beside the registers that a call is given: 0 all, 4 how many cells are lent, 5 and 6 a cell, 10 the list.
+fn arrange(
     r: Record,
     a: usize,
     regs: &mut [u64; 256],
-    ind: &mut [u32; 4112],
-    val: &mut [u32; 4112],
-    tind: &[u32; 4112],
-    tval: &[u32; 4112],
-    list: &[i32; 4112],
-) -> Seen
+    ind: &mut [u32; 8224],
+    val: &mut [u32; 8224],
+    list: &mut [i32; 4112],
+)
     requires { ⌜ a < 2 ⌝ }
-    ensures { λ s. ⌜ s .behind .many ≤ 1280 ⌝ }
 {
-    let g = given_to(regs, a);
-    call(r, g, regs, ind, val, tind, tval, list)
-}
-
-// Runs a record on set a.
-fn on_set(
-    r: Record,
-    a: usize,
-    regs: &mut [u64; 256],
-    ind: &mut [u32; 4112],
-    val: &mut [u32; 4112],
-    tind: &[u32; 4112],
-    tval: &[u32; 4112],
-    list: &[i32; 4112],
-) -> Seen
-    requires { ⌜ (a < 2) × (r .b < 8) ⌝ }
-    ensures { λ s. ⌜ s .behind .many ≤ 1280 ⌝ }
-{
-    if raw::sets(r.op) {
-        let s = raw::run(r, a, regs, ind, val);
-        return finish(r, a, regs, s, ind, val);
-    }
-    let s = on_call(r, a, regs, ind, val, tind, tval, list);
-    finish(r, a, regs, s, ind, val)
-}
-
-// Sets cells of set a, or listed values.
-fn arrange(r: Record, ind: &mut [u32; 4112], val: &mut [u32; 4112], list: &mut [i32; 4112]) {
-    if r.op == 5 {
-        cells::put_cell(r, ind);
-    }
-    if r.op == 6 {
-        cells::put_cell(r, val);
-    }
-    if r.op == 10 {
-        cells::list_values(r, list);
-    }
-}
-
-// All registers to 0, and the first n cells blank.
-fn reset(
-    r: Record,
-    regs: &mut [u64; 256],
-    ind0: &mut [u32; 4112],
-    val0: &mut [u32; 4112],
-    ind1: &mut [u32; 4112],
-    val1: &mut [u32; 4112],
-) {
-    if r.op == 0 {
-        words::clear(regs);
-        cells::blank(ind0, r.n);
-        cells::blank(val0, r.n);
-        cells::blank(ind1, r.n);
-        cells::blank(val1, r.n);
+    let op = r.op;
+    match op {
+        0 => {
+            words::clear(regs);
+            cells::blank(ind, r.n);
+            cells::blank(val, r.n);
+        }
+        4 => {
+            words::put(regs, regs::LENT + a, regs::of_pair(r.lo, 0));
+        }
+        5 => {
+            cells::put_cell(r, a, ind);
+        }
+        6 => {
+            cells::put_cell(r, a, val);
+        }
+        10 => {
+            cells::list_values(r, list);
+        }
+        _ => {}
     }
 }
 
@@ -201,22 +194,20 @@ fn reset(
 fn step(
     r: Record,
     regs: &mut [u64; 256],
-    ind0: &mut [u32; 4112],
-    val0: &mut [u32; 4112],
-    ind1: &mut [u32; 4112],
-    val1: &mut [u32; 4112],
+    ind: &mut [u32; 8224],
+    val: &mut [u32; 8224],
     list: &mut [i32; 4112],
 ) -> Seen
     requires { ⌜ r .b < 8 ⌝ }
     ensures { λ s. ⌜ s .behind .many ≤ 1280 ⌝ }
 {
-    reset(r, regs, ind0, val0, ind1, val1);
-    if r.a % 2 == 0 {
-        arrange(r, ind0, val0, list);
-        return on_set(r, 0, regs, ind0, val0, ind1, val1, list);
-    }
-    arrange(r, ind1, val1, list);
-    on_set(r, 1, regs, ind1, val1, ind0, val0, list)
+    let a = r.a % 2;
+    arrange(r, a, regs, ind, val, list);
+    let g = given::to(r, a, regs);
+    let mut s = run(r, g, ind, val, list);
+    let t = finish(r, a, regs, s, ind, val);
+    s.turn = t;
+    s
 }
 
 // Writes the answer at `to` and what stands behind it, and answers where the next answer goes.
@@ -233,10 +224,6 @@ fn write(op: u64, s: Seen, out: &mut [u8], to: usize) -> usize
     next
 }
 
-fn blank_cells() -> [u32; 4112] {
-    [1515870810u32; 4112]
-}
-
 // Runs the script on registers that begin at 0, as far as `out` has room for what any record may answer, and answers how many
 // bytes were written.
 #[no_mangle]
@@ -244,10 +231,8 @@ pub extern "C" fn probe_sparse(script: &[u8], out: &mut [u8]) -> usize
     ensures { λ n. ⌜ n ≤ length (now (out .exit)) ⌝ }
 {
     let mut regs = [0u64; 256];
-    let mut ind0 = blank_cells();
-    let mut val0 = blank_cells();
-    let mut ind1 = blank_cells();
-    let mut val1 = blank_cells();
+    let mut ind = cells::all_blank();
+    let mut val = cells::all_blank();
     let mut list = [0i32; 4112];
     let mut at = 0;
     let mut to = 0;
@@ -257,15 +242,7 @@ pub extern "C" fn probe_sparse(script: &[u8], out: &mut [u8]) -> usize
         }
         let r = record::read(script, at);
         at += record::SIZE;
-        let s = step(
-            r,
-            &mut regs,
-            &mut ind0,
-            &mut val0,
-            &mut ind1,
-            &mut val1,
-            &mut list,
-        );
+        let s = step(r, &mut regs, &mut ind, &mut val, &mut list);
         to = write(r.op, s, out, to);
     }
     to

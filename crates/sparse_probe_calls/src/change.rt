@@ -1,4 +1,4 @@
-// All calls, by their numbers in a script; those that may write cells of a set first.
+// All calls, by their numbers in a script: those on one set, and those on two.
 ghost use Prim.Native.Nat.{_<_, _≤_};
 use super::calls;
 use super::look;
@@ -10,8 +10,10 @@ use probe_parts::turn::after;
 use rules::Value;
 use sparse_inner::Sparse;
 use sparse_probe_parts::answer;
+use sparse_probe_parts::given;
+use sparse_probe_parts::given::Given;
+use sparse_probe_parts::given::Seen;
 use sparse_probe_parts::lent;
-use sparse_probe_parts::lent::Seen;
 use sparse_probe_parts::regs;
 
 // The listed values from place b up to place b + n are those that 8 is given.
@@ -31,7 +33,25 @@ fn change(op: u64, s: Sparse, ind: &mut [u32], val: &mut [u32], v: Value) -> Tur
     answer::narrowed(calls::cut(op, s, ind, val, v))
 }
 
-fn both(
+// The calls on one set. 2, 3 and 8 make it, 33 to 37 but 34 may write cells of it, 60 and 61 are lent others.
+pub fn one(r: Record, g: Given, ind: &mut [u32], val: &mut [u32], list: &[i32]) -> Seen
+    requires { ⌜ r .b < 8 ⌝ }
+    ensures { λ s. ⌜ s .behind .many ≤ 1280 ⌝ }
+{
+    let op = r.op;
+    match op {
+        2 | 3 | 8 => given::alone(make(r, g.old, ind, val, list), g.beside),
+        33 | 35 | 36 | 37 => given::alone(
+            change(op, regs::set(g.old), ind, val, Value(r.v)),
+            g.beside,
+        ),
+        60 | 61 => lent::write(r, g, ind, val),
+        _ => look::run(r, g, ind, val),
+    }
+}
+
+// With no scratch: 41 may write cells of set a, the others ask.
+fn paired(
     op: u64,
     s: Sparse,
     ind: &mut [u32],
@@ -49,46 +69,36 @@ fn both(
     )
 }
 
-// The calls that are given one set, and nothing beside its cells.
-fn alone(
-    r: Record,
-    regs: &mut [u64; 256],
-    old: Register,
-    ind: &mut [u32],
-    val: &mut [u32],
-    list: &[i32],
-) -> Turn
-    requires { ⌜ r .b < 8 ⌝ }
-{
-    let op = r.op;
-    match op {
-        2 | 3 | 8 => make(r, old, ind, val, list),
-        33 | 35 | 36 | 37 => change(op, regs::set(old), ind, val, Value(r.v)),
-        _ => look::run(r, regs, old, ind, val),
-    }
+pub fn is_on_two(op: u64) -> bool {
+    (40 <= op) & (op <= 44)
 }
 
-// The record's b is below 8. A caller that holds all of this is past showing it, so it is made sure of here.
-pub fn run(
-    record: Record,
-    regs: &mut [u64; 256],
-    old: Register,
+// The calls on two sets, of which the second is lent to be read.
+pub fn two(
+    r: Record,
+    g: Given,
     ind: &mut [u32],
     val: &mut [u32],
-    other: Sparse,
     tind: &[u32],
     tval: &[u32],
-    list: &[i32],
 ) -> Seen
+    requires { ⌜ r .b < 8 ⌝ }
     ensures { λ s. ⌜ s .behind .many ≤ 1280 ⌝ }
 {
-    let mut r = record;
-    r.b = record.b % 8;
     let op = r.op;
     match op {
-        40 | 44 => lent::part(r, regs::set(old), ind, val, other, tind, tval),
-        60 | 61 => lent::write(r, old, ind, val),
-        41 | 42 | 43 => lent::alone(both(op, regs::set(old), ind, val, other, tind, tval)),
-        _ => lent::alone(alone(r, regs, old, ind, val, list)),
+        40 | 44 => lent::part(r, g, ind, val, tind, tval),
+        _ => given::alone(
+            paired(
+                op,
+                regs::set(g.old),
+                ind,
+                val,
+                regs::set(g.other),
+                tind,
+                tval,
+            ),
+            g.beside,
+        ),
     }
 }

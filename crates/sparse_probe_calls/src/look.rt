@@ -1,8 +1,7 @@
 // The calls that write no cell of a set.
-ghost use Prim.Native.Nat.{_<_};
+ghost use Prim.Native.Nat.{_≤_};
 use super::calls;
 use probe_parts::record::Record;
-use probe_parts::regs as words;
 use probe_parts::regs::Register;
 use probe_parts::reply;
 use probe_parts::reply::Reply;
@@ -12,6 +11,9 @@ use probe_parts::wire;
 use rules::Value;
 use sparse_inner::Sparse;
 use sparse_probe_parts::answer;
+use sparse_probe_parts::given;
+use sparse_probe_parts::given::Given;
+use sparse_probe_parts::given::Seen;
 use sparse_probe_parts::regs;
 use sparse_values::ComplementCursor;
 use sparse_values::HeldCursor;
@@ -52,41 +54,28 @@ fn walk(op: u64, s: Sparse, ind: &[u32], val: &[u32], at: u32) -> Turn {
     }
 }
 
-fn walked(r: Record, regs: &mut [u64; 256], s: Sparse, ind: &[u32], val: &[u32]) -> Reply
-    requires { ⌜ r .b < 8 ⌝ }
+// A call that leaves set a as it was, and of state b or cursor b what the turn says.
+fn besides(old: Register, t: Turn) -> Seen
+    ensures { λ s. ⌜ s .behind .many ≤ 1280 ⌝ }
 {
-    let i = words::CURSORS + r.b;
-    let old = words::get(regs, i);
-    let t = walk(r.op, s, ind, val, wire::half(old.lo));
-    words::put(regs, i, t.left);
-    t.reply
+    given::alone(after(old, t.reply), t.left)
 }
 
-fn save(r: Record, regs: &mut [u64; 256], s: Sparse, ind: &[u32], val: &[u32]) -> Reply
-    requires { ⌜ r .b < 8 ⌝ }
+pub fn run(r: Record, g: Given, ind: &[u32], val: &[u32]) -> Seen
+    ensures { λ s. ⌜ s .behind .many ≤ 1280 ⌝ }
 {
-    let i = words::STATES + r.b;
-    let t = answer::saved(sparse::save_state(s, ind, val), words::get(regs, i));
-    words::put(regs, i, t.left);
-    t.reply
-}
-
-fn resized(r: Record, regs: &[u64; 256], s: Sparse, ind: &[u32], val: &[u32]) -> Turn
-    requires { ⌜ r .b < 8 ⌝ }
-{
-    let t = regs::state(words::get(regs, words::STATES + r.b));
-    answer::narrowed(calls::resized(r.op, s, ind, val, t))
-}
-
-pub fn run(r: Record, regs: &mut [u64; 256], old: Register, ind: &[u32], val: &[u32]) -> Turn
-    requires { ⌜ r .b < 8 ⌝ }
-{
-    let s = regs::set(old);
+    let s = regs::set(g.old);
     let op = r.op;
     match op {
-        34 | 51 => resized(r, regs, s, ind, val),
-        50 => after(old, save(r, regs, s, ind, val)),
-        56 | 57 | 58 | 59 => after(old, walked(r, regs, s, ind, val)),
-        _ => after(old, ask(op, s, ind, val, Value(r.v))),
+        34 | 51 => given::alone(
+            answer::narrowed(calls::resized(op, s, ind, val, regs::state(g.beside))),
+            g.beside,
+        ),
+        50 => besides(
+            g.old,
+            answer::saved(sparse::save_state(s, ind, val), g.beside),
+        ),
+        56 | 57 | 58 | 59 => besides(g.old, walk(op, s, ind, val, wire::half(g.beside.lo))),
+        _ => given::alone(after(g.old, ask(op, s, ind, val, Value(r.v))), g.beside),
     }
 }

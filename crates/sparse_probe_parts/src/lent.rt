@@ -2,17 +2,20 @@
 // after the part among them, goes into one number, and the first of the cells go out behind the answer.
 ghost use Prim.Native.Nat.{_<_, _≤_};
 use super::answer;
+use super::given::Given;
+use super::given::Seen;
 use super::regs;
 use super::seen;
 use probe_parts::behind;
-use probe_parts::behind::Behind;
 use probe_parts::lent::least;
 use probe_parts::record::Record;
 use probe_parts::regs::Register;
+use probe_parts::reply;
 use probe_parts::turn::Turn;
 use probe_parts::turn::after;
 use sparse_inner::Sparse;
 
+// What cells and bytes hold before a call.
 fn blank_cells() -> [i32; 4112] {
     [1515870810i32; 4112]
 }
@@ -28,82 +31,71 @@ fn wanted(r: Record, most: usize) -> usize
     least((r.lo % 4096) as usize, most)
 }
 
-// What a record leaves and answers, and what stands behind the answer.
-pub struct Seen {
-    pub turn: Turn,
-    pub behind: Behind,
-}
-
-pub fn alone(turn: Turn) -> Seen
-    ensures { λ s. ⌜ s .behind .many ≤ 1280 ⌝ }
-{
-    Seen {
-        turn,
-        behind: behind::nothing(),
-    }
-}
-
-// All lent cells in one number.
+// The answer with all that is seen of the cells as one number.
 fn numbered(t: Turn, number: u64) -> Turn {
     let mut reply = t.reply;
     reply.lo = number;
     after(t.left, reply)
 }
 
-// Of the values to 4 past the lent part.
-fn with_values(r: Record, cells: &[i32; 4112], t: Turn) -> Seen
+// The number goes over the cells to 4 past the lent part.
+fn with_values(r: Record, cells: &[i32; 4112], t: Turn, beside: Register) -> Seen
     requires { ⌜ r .b < 8 ⌝ }
     ensures { λ s. ⌜ s .behind .many ≤ 1280 ⌝ }
 {
     let number = seen::values(cells, r.b + least(r.n, 4100) + 4);
     Seen {
         turn: numbered(t, number),
+        beside,
         behind: behind::of_values(cells, wanted(r, 160)),
     }
 }
 
-fn with_bytes(r: Record, cells: &[u8; 49664], t: Turn) -> Seen
+fn with_bytes(r: Record, cells: &[u8; 49664], t: Turn, beside: Register) -> Seen
     requires { ⌜ r .b < 8 ⌝ }
     ensures { λ s. ⌜ s .behind .many ≤ 1280 ⌝ }
 {
     let number = seen::bytes(cells, r.b + least(r.n, 49600) + 4);
     Seen {
         turn: numbered(t, number),
+        beside,
         behind: behind::of_bytes(cells, wanted(r, 1280)),
     }
 }
 
-// 60 lends n cells from cell b on, any other n bytes from byte b on.
-fn to_vec(r: Record, old: Register, ind: &[u32], val: &[u32]) -> Seen
+// Lends n cells from cell b on.
+fn to_vec(r: Record, g: Given, ind: &[u32], val: &[u32]) -> Seen
     requires { ⌜ r .b < 8 ⌝ }
     ensures { λ s. ⌜ s .behind .many ≤ 1280 ⌝ }
 {
     let start = r.b;
     let end = start + least(r.n, 4100);
     let mut cells = blank_cells();
-    let answer = sparse_values::to_vec(regs::set(old), ind, val, &mut cells[start..end]);
-    with_values(r, &cells, after(old, answer::counted(answer)))
+    let answer = sparse_values::to_vec(regs::set(g.old), ind, val, &mut cells[start..end]);
+    with_values(r, &cells, after(g.old, answer::counted(answer)), g.beside)
 }
 
-fn text(r: Record, old: Register, ind: &[u32], val: &[u32]) -> Seen
+// Lends n bytes from byte b on.
+fn text(r: Record, g: Given, ind: &[u32], val: &[u32]) -> Seen
     requires { ⌜ r .b < 8 ⌝ }
     ensures { λ s. ⌜ s .behind .many ≤ 1280 ⌝ }
 {
     let start = r.b;
     let end = start + least(r.n, 49600);
     let mut bytes = blank_bytes();
-    let answer = sparse_text::write_text(regs::set(old), ind, val, &mut bytes[start..end]);
-    with_bytes(r, &bytes, after(old, answer::counted(answer)))
+    let answer = sparse_text::write_text(regs::set(g.old), ind, val, &mut bytes[start..end]);
+    with_bytes(r, &bytes, after(g.old, answer::counted(answer)), g.beside)
 }
 
-pub fn write(r: Record, old: Register, ind: &[u32], val: &[u32]) -> Seen
+// 60 writes values, any other text.
+pub fn write(r: Record, g: Given, ind: &[u32], val: &[u32]) -> Seen
     requires { ⌜ r .b < 8 ⌝ }
     ensures { λ s. ⌜ s .behind .many ≤ 1280 ⌝ }
 {
     if r.op == 60 {
-        return to_vec(r, old, ind, val);
+        return to_vec(r, g, ind, val);
     }
-    text(r, old, ind, val)
+    text(r, g, ind, val)
 }
 
 // With scratch: 40 keeps what the other set holds, any other drops it.
@@ -126,10 +118,9 @@ fn parted(
 // Lends n cells from cell b on as scratch.
 pub fn part(
     r: Record,
-    s: Sparse,
+    g: Given,
     ind: &mut [u32],
     val: &mut [u32],
-    t: Sparse,
     tind: &[u32],
     tval: &[u32],
 ) -> Seen
@@ -138,17 +129,21 @@ pub fn part(
 {
     let start = r.b;
     let end = start + least(r.n, 4100);
+    let s = regs::set(g.old);
+    let t = regs::set(g.other);
     let mut cells = blank_cells();
     let turn = parted(r.op, s, ind, val, t, tind, tval, &mut cells[start..end]);
-    with_values(r, &cells, turn)
+    with_values(r, &cells, turn, g.beside)
 }
 
-// The first n cells of both orderings.
-pub fn orderings(r: Record, ind: &[u32; 4112], val: &[u32; 4112], turn: Turn) -> Seen
+// The first n cells of both orderings of set a.
+pub fn orderings(r: Record, g: Given, ind: [u32; 4112], val: [u32; 4112]) -> Seen
     ensures { λ s. ⌜ s .behind .many ≤ 1280 ⌝ }
 {
+    let beside = g.beside;
     Seen {
-        turn,
-        behind: behind::of_halves(ind, val, least(r.n, 160)),
+        turn: after(g.old, reply::none()),
+        beside,
+        behind: behind::of_halves(&ind, &val, least(r.n, 160)),
     }
 }

@@ -16,13 +16,13 @@ fn byte(x: u8) -> u64 {
     x as u64
 }
 
-// Of the first n cells of both orderings.
-pub fn orderings(ind: &[u32; 4112], val: &[u32; 4112], n: usize) -> u64
-    requires { ⌜ n ≤ 4112 ⌝ }
+// Of the cells of both orderings from one up to another.
+pub fn orderings(ind: &[u32; 8224], val: &[u32; 8224], from: usize, end: usize) -> u64
+    requires { ⌜ end ≤ 8224 ⌝ }
 {
     let mut h = START;
-    let mut i = 0;
-    while i < n {
+    let mut i = from;
+    while i < end {
         h = mixed(h, wire::pair(ind[i], val[i]));
         i += 1;
     }

@@ -5,7 +5,7 @@ use Rattle.sparse_probe.proofs.cells.blank.Statement.{statement}
 use Rattle.sparse_probe.proofs.cells.blank.Tie as tie
 
 abbrev Inv-loop : tie.InvT-loop
-Inv-loop cells₀ n many i₀ cells i = i ≤ many
+Inv-loop cells₀ n many i₀ cells i = (i ≤ many) × (many ≤ 4112)
 
 abbrev μ-loop : tie.MeasureT-loop
 μ-loop cells₀ n many i₀ cells i = many - i
@@ -17,6 +17,9 @@ blank-spec =
     Inv-loop
     μ-loop
     (λ c κs. search needs)
+    (λ c. search needs)
+    (λ c. search needs)
+    (λ c. search needs)
     (λ c. search needs)
     (λ c. search needs)
     (λ c. search needs)

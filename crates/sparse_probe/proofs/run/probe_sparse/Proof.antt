@@ -7,10 +7,10 @@ use Rattle.sparse_probe.proofs.run.probe_sparse.Statement.{statement}
 use Rattle.sparse_probe.proofs.run.probe_sparse.Tie as tie
 
 abbrev Inv-loop : tie.InvT-loop
-Inv-loop script out₀ regs₀ ind0₀ val0₀ ind1₀ val1₀ list₀ at₀ to₀ out regs ind0 val0 ind1 val1 list at to = (at ≤ length script) × (to ≤ length out) × (length out ≡ length out₀)
+Inv-loop script out₀ regs₀ ind₀ val₀ list₀ at₀ to₀ out regs ind val list at to = (at ≤ length script) × (to ≤ length out) × (length out ≡ length out₀)
 
 abbrev μ-loop : tie.MeasureT-loop
-μ-loop script out₀ regs₀ ind0₀ val0₀ ind1₀ val1₀ list₀ at₀ to₀ out regs ind0 val0 ind1 val1 list at to = length script - at
+μ-loop script out₀ regs₀ ind₀ val₀ list₀ at₀ to₀ out regs ind val list at to = length script - at
 
 pub probe-sparse-spec : {M : Type 1} → statement M
 probe-sparse-spec =
@@ -18,8 +18,6 @@ probe-sparse-spec =
     (tie.spec
     Inv-loop
     μ-loop
-    (λ c κs. search needs)
-    (λ c κs. search needs)
     (λ c κs. search needs)
     (λ c κs. search needs)
     (λ c. search needs)

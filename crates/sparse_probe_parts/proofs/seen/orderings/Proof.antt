@@ -5,10 +5,10 @@ use Rattle.sparse_probe_parts.proofs.seen.orderings.Statement.{statemen
 use Rattle.sparse_probe_parts.proofs.seen.orderings.Tie as tie
 
 abbrev Inv-loop : tie.InvT-loop
-Inv-loop ind val n h₀ i₀ h i = i ≤ n
+Inv-loop ind val from end h₀ i₀ h i = end ≤ 8224
 
 abbrev μ-loop : tie.MeasureT-loop
-μ-loop ind val n h₀ i₀ h i = n - i
+μ-loop ind val from end h₀ i₀ h i = end - i
 
 pub orderings-spec : {M : Type 1} → statement M
 orderings-spec =
