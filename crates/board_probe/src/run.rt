@@ -1,4 +1,4 @@
-// A script, record by record.
+// A script, record by record. What a record leaves and answers goes by value, so that only `write` is lent the bytes to write to.
 ghost use mathlib.Core.Path.{_≡_};
 ghost use Prim.Native.Nat.{_+_, _<_, _≤_};
 ghost use lib.ListN.{length};
@@ -7,18 +7,27 @@ use super::changes::Turn;
 use board::Board;
 use board_probe_parts::asks;
 use board_probe_parts::lent;
-use board_probe_parts::raw;
 use board_probe_parts::run as parts;
 use board_probe_parts::show;
 use probe_parts::behind;
+use probe_parts::behind::Behind;
 use probe_parts::record;
 use probe_parts::record::Record;
 use probe_parts::regs;
 use probe_parts::regs::Register;
 use probe_parts::reply;
+use probe_parts::reply::Reply;
 
 // The most bytes that a record's answer takes, with the whole board behind it.
 const MOST: usize = 10328;
+
+// A board after a record, what the record answered, what shows the board, and the cells behind the answer.
+struct Done {
+    board: Board,
+    reply: Reply,
+    shown: Register,
+    behind: Behind,
+}
 
 fn asks(op: u64) -> bool {
     match op {
@@ -27,7 +36,6 @@ fn asks(op: u64) -> bool {
     }
 }
 
-// The calls that are lent no cells.
 fn call(r: Record, b: Board, regs: &mut [u64; 256], ids: &[u32; 224]) -> Turn
     requires { ⌜ (r .a < 8) × (r .b < 8) ⌝ }
 {
@@ -37,8 +45,37 @@ fn call(r: Record, b: Board, regs: &mut [u64; 256], ids: &[u32; 224]) -> Turn
     changes::run(r, b, regs, ids)
 }
 
-// The records that only set registers show no board.
-fn set(r: Record, regs: &mut [u64; 256], ids: &mut [u32; 224]) -> Register {
+// The calls that are lent no cells, and the records that set a part of the board by hand.
+fn called(t: Turn) -> Done
+    ensures { λ d. ⌜ d .behind .many ≤ 2048 ⌝ }
+{
+    let board = t.board;
+    let reply = t.reply;
+    Done {
+        board,
+        reply,
+        shown: show::left(board),
+        behind: behind::nothing(),
+    }
+}
+
+// The calls that are lent cells.
+fn lending(r: Record, board: Board) -> Done
+    requires { ⌜ r .b < 8 ⌝ }
+    ensures { λ d. ⌜ d .behind .many ≤ 2048 ⌝ }
+{
+    let lent = lent::run(r, board);
+    let answer = lent.answer;
+    let behind = lent.behind;
+    Done {
+        board,
+        reply: reply::counted(answer),
+        shown: show::left(board),
+        behind,
+    }
+}
+
+fn set(r: Record, regs: &mut [u64; 256], ids: &mut [u32; 224]) {
     let op = r.op;
     match op {
         0 => {
@@ -52,78 +89,62 @@ fn set(r: Record, regs: &mut [u64; 256], ids: &mut [u32; 224]) -> Register {
             regs::put_values(regs, r.n, r.lo, r.hi);
         }
     }
-    Register {
-        lo: 0,
-        hi: 0,
-        bounds: 0,
+}
+
+// 0 makes a new board.
+fn kept(op: u64, b: Board) -> Board {
+    if op == 0 {
+        return board_enter::new();
+    }
+    b
+}
+
+// The records that only set registers show no board.
+fn silent(op: u64, b: Board) -> Done
+    ensures { λ d. ⌜ d .behind .many ≤ 2048 ⌝ }
+{
+    Done {
+        board: kept(op, b),
+        reply: reply::none(),
+        shown: Register {
+            lo: 0,
+            hi: 0,
+            bounds: 0,
+        },
+        behind: behind::nothing(),
     }
 }
 
-// The board, and what stands behind the answer, for the records that show more than what a call answers.
-fn shown(r: Record, b: Board, out: &mut [u8], to: usize) -> usize
-    requires { ⌜ (r .b < 8) × (to + 10328 ≤ length (now out)) ⌝ }
-    ensures { λ n. ⌜ (n ≤ 10328) × (length (now (out .exit)) ≡ length (now (out .entry))) ⌝ }
+fn step(r: Record, b: Board, regs: &mut [u64; 256], ids: &mut [u32; 224]) -> Done
+    requires { ⌜ (r .a < 8) × (r .b < 8) ⌝ }
+    ensures { λ d. ⌜ d .behind .many ≤ 2048 ⌝ }
+{
+    let op = r.op;
+    match op {
+        0 | 1 | 2 => {
+            set(r, regs, ids);
+            silent(op, b)
+        }
+        39 | 42 => lending(r, b),
+        _ => called(call(r, b, regs, ids)),
+    }
+}
+
+// Writes the answer at `to` and what stands behind it, for 8 the whole board, and answers where the next answer goes.
+fn write(op: u64, d: Done, out: &mut [u8], to: usize) -> usize
+    requires { ⌜ (d .behind .many ≤ 2048) × (to + 10328 ≤ length (now out)) ⌝ }
+    ensures { λ next. ⌜ (next ≤ length (now (out .exit))) × (length (now (out .exit)) ≡ length (now (out .entry))) ⌝ }
 {
     let next = to + 64;
-    if r.op == 8 {
-        show::dump(b, out, next);
-        reply::write(8, reply::none(), show::left(b), out, to);
-        return MOST;
+    reply::write(op, d.reply, d.shown, out, to);
+    if op == 8 {
+        let board = d.board;
+        show::dump(board, out, next);
+        return to + MOST;
     }
-    let lent = lent::run(r, b);
-    let answer = lent.answer;
-    let cells = lent.behind;
-    reply::write(r.op, reply::counted(answer), show::left(b), out, to);
+    let cells = d.behind;
     behind::write(cells, out, next);
-    64 + cells.many
-}
-
-fn shows(op: u64) -> bool {
-    (op == 8) | (op == 39) | (op == 42)
-}
-
-// A board after a record, and where the next answer goes.
-pub struct Stepped {
-    pub board: Board,
-    pub to: usize,
-}
-
-// Runs a record, and writes what it answered at `to`.
-fn step(
-    r: Record,
-    b: Board,
-    regs: &mut [u64; 256],
-    ids: &mut [u32; 224],
-    out: &mut [u8],
-    to: usize,
-) -> Stepped
-    requires { ⌜ (r .a < 8) × (r .b < 8) × (to + 10328 ≤ length (now out)) ⌝ }
-    ensures { λ s. ⌜ (s .to ≤ length (now (out .exit))) × (length (now (out .exit)) ≡ length (now (out .entry))) ⌝ }
-{
-    let next = to + 64;
-    if r.op < 3 {
-        let none = set(r, regs, ids);
-        reply::write(r.op, reply::none(), none, out, to);
-        return Stepped {
-            board: if r.op == 0 { board_enter::new() } else { b },
-            to: next,
-        };
-    }
-    if shows(r.op) {
-        let bytes = shown(r, b, out, to);
-        return Stepped {
-            board: b,
-            to: to + bytes,
-        };
-    }
-    let turn = call(r, b, regs, ids);
-    let after = turn.board;
-    let answer = turn.reply;
-    reply::write(r.op, answer, show::left(after), out, to);
-    Stepped {
-        board: after,
-        to: next,
-    }
+    next + cells.many
 }
 
 // Runs the script on a new board and registers that begin at 0, as far as `out` has room for what any record may answer, and
@@ -142,10 +163,10 @@ pub extern "C" fn probe_board(script: &[u8], out: &mut [u8]) -> usize
             return to;
         }
         let r = record::read(script, at);
-        let done = step(r, board, &mut regs, &mut ids, out, to);
-        board = done.board;
-        to = done.to;
         at += record::SIZE;
+        let done = step(r, board, &mut regs, &mut ids);
+        board = done.board;
+        to = write(r.op, done, out, to);
     }
     to
 }
