@@ -1,7 +1,7 @@
-// The probe of the forms proved by hand, behind a pipe: frames come in of 8,192 bytes, and the answers to each go out before the next is
-// read. It ends with the input.
+// The forms proved by hand behind a pipe: frames of 8,192 bytes come in, and the answers to each go out before the next is read. It
+// ends with the input.
 //
-// Where the Rust runs on another processor than this program is compiled for, the comparison reaches the calls through it.
+// The comparison with the Rust (differential/run) reaches the calls through it.
 ghost use mathlib.Core.Path.{_≡_};
 ghost use lib.ListN.{length};
 
