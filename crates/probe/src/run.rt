@@ -16,7 +16,7 @@ use probe_parts::turn::Turn;
 // The most bytes that a record's answer and lent cells take.
 const MOST: usize = 2112;
 
-// What is left of state b: 50 saves domain a, 52 sets it.
+// A refused call leaves the register as it was.
 fn saved(k: Kept, old: Register) -> Register {
     match k {
         Kept::State(s) => regs::of_state(s),
@@ -24,6 +24,7 @@ fn saved(k: Kept, old: Register) -> Register {
     }
 }
 
+// What is left of state b: 50 saves domain a there, 52 sets it.
 fn state(r: Record, regs: &[u64; 256]) -> Register
     requires { ⌜ (r .a < 8) × (r .b < 8) ⌝ }
 {
