@@ -69,7 +69,7 @@ fn on_one(r: Record, g: Given, ind: &mut [u32], val: &mut [u32], list: &[i32]) -
     )
 }
 
-// A call on two sets, of which the other's cells stand alone.
+// A call on two sets, the other's cells in arrays of their own.
 fn on_two(r: Record, g: Given, ind: &mut [u32], val: &mut [u32], tind: &[u32], tval: &[u32]) -> Seen
     requires { ⌜ r .b < 8 ⌝ }
     ensures { λ s. ⌜ s .behind .many ≤ 1280 ⌝ }
@@ -96,6 +96,22 @@ fn on_two(r: Record, g: Given, ind: &mut [u32], val: &mut [u32], tind: &[u32], t
     )
 }
 
+// The other set's cells are copied: two parts of one array can't be lent at a time.
+fn paired(r: Record, g: Given, ind: &mut [u32; 8224], val: &mut [u32; 8224]) -> Seen
+    requires { ⌜ (g .a < 2) × (r .b < 8) ⌝ }
+    ensures { λ s. ⌜ s .behind .many ≤ 1280 ⌝ }
+{
+    let tind = cells::copied(ind, 1 - g.a);
+    let tval = cells::copied(val, 1 - g.a);
+    on_two(r, g, ind, val, &tind, &tval)
+}
+
+fn shown(r: Record, g: Given, ind: &[u32; 8224], val: &[u32; 8224]) -> Seen
+    ensures { λ s. ⌜ s .behind .many ≤ 1280 ⌝ }
+{
+    lent::orderings(r, g, cells::copied(ind, g.a), cells::copied(val, g.a))
+}
+
 // Runs a record on set a, once what it sets beside the registers that it is given is set.
 fn run(
     r: Record,
@@ -107,18 +123,13 @@ fn run(
     requires { ⌜ (g .a < 2) × (r .b < 8) ⌝ }
     ensures { λ s. ⌜ s .behind .many ≤ 1280 ⌝ }
 {
-    if raw::sets(r.op) {
-        return raw::run(r, g);
+    let op = r.op;
+    match op {
+        0 | 1 | 4 | 5 | 6 | 10 | 52 | 62 => raw::run(r, g),
+        63 => shown(r, g, ind, val),
+        40 | 41 | 42 | 43 | 44 => paired(r, g, ind, val),
+        _ => on_one(r, g, ind, val, list),
     }
-    if r.op == 63 {
-        return lent::orderings(r, g, cells::copied(ind, g.a), cells::copied(val, g.a));
-    }
-    if change::is_on_two(r.op) {
-        let tind = cells::copied(ind, 1 - g.a);
-        let tval = cells::copied(val, 1 - g.a);
-        return on_two(r, g, ind, val, &tind, &tval);
-    }
-    on_one(r, g, ind, val, list)
 }
 
 // How many cells go into what is seen of the orderings: those that are lent and some past them.

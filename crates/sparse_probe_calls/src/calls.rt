@@ -44,14 +44,6 @@ pub fn resized(op: u64, s: Sparse, ind: &[u32], val: &[u32], t: SparseState) -> 
     sparse::restore_state(s, ind, val, t)
 }
 
-pub fn cut(op: u64, s: Sparse, ind: &mut [u32], val: &mut [u32], v: Value) -> Narrowed {
-    match op {
-        35 => sparse::remove_all_but(s, ind, val, v),
-        36 => sparse::remove_below(s, ind, val, v),
-        _ => sparse::remove_above(s, ind, val, v),
-    }
-}
-
 pub fn made(op: u64, ind: &mut [u32], val: &mut [u32], a: Value, b: Value, values: &[i32]) -> Made {
     match op {
         2 => sparse_make::new(a, b, ind, val),

@@ -27,10 +27,12 @@ fn make(r: Record, old: Register, ind: &mut [u32], val: &mut [u32], list: &[i32]
 }
 
 fn change(op: u64, s: Sparse, ind: &mut [u32], val: &mut [u32], v: Value) -> Turn {
-    if op == 33 {
-        return answer::changed(sparse::remove(s, ind, val, v));
+    match op {
+        33 => answer::changed(sparse::remove(s, ind, val, v)),
+        35 => answer::narrowed(sparse::remove_all_but(s, ind, val, v)),
+        36 => answer::narrowed(sparse::remove_below(s, ind, val, v)),
+        _ => answer::narrowed(sparse::remove_above(s, ind, val, v)),
     }
-    answer::narrowed(calls::cut(op, s, ind, val, v))
 }
 
 // The calls on one set. 2, 3 and 8 make it, 33 to 37 but 34 may write cells of it, 60 and 61 are lent others.
@@ -50,30 +52,7 @@ pub fn one(r: Record, g: Given, ind: &mut [u32], val: &mut [u32], list: &[i32]) 
     }
 }
 
-// With no scratch: 41 may write cells of set a, the others ask.
-fn paired(
-    op: u64,
-    s: Sparse,
-    ind: &mut [u32],
-    val: &mut [u32],
-    t: Sparse,
-    tind: &[u32],
-    tval: &[u32],
-) -> Turn {
-    if op == 41 {
-        return answer::narrowed(sparse_pairs::union_with(s, ind, val, t, tind, tval));
-    }
-    after(
-        regs::of_set(s),
-        answer::told(calls::compared(op, s, ind, val, t, tind, tval)),
-    )
-}
-
-pub fn is_on_two(op: u64) -> bool {
-    (40 <= op) & (op <= 44)
-}
-
-// The calls on two sets, of which the second is lent to be read.
+// The calls on two sets, of which the second is lent to be read. 40, 41 and 44 may write cells of the first, the others ask.
 pub fn two(
     r: Record,
     g: Given,
@@ -85,18 +64,19 @@ pub fn two(
     requires { ⌜ r .b < 8 ⌝ }
     ensures { λ s. ⌜ s .behind .many ≤ 1280 ⌝ }
 {
+    let s = regs::set(g.old);
+    let t = regs::set(g.other);
     let op = r.op;
     match op {
         40 | 44 => lent::part(r, g, ind, val, tind, tval),
+        41 => given::alone(
+            answer::narrowed(sparse_pairs::union_with(s, ind, val, t, tind, tval)),
+            g.beside,
+        ),
         _ => given::alone(
-            paired(
-                op,
-                regs::set(g.old),
-                ind,
-                val,
-                regs::set(g.other),
-                tind,
-                tval,
+            after(
+                regs::of_set(s),
+                answer::told(calls::compared(op, s, ind, val, t, tind, tval)),
             ),
             g.beside,
         ),

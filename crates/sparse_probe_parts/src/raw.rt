@@ -50,14 +50,6 @@ fn beside(r: Record, old: Register) -> Register {
     }
 }
 
-// 63, which shows cells, is no call either.
-pub fn sets(op: u64) -> bool {
-    match op {
-        0 | 1 | 4 | 5 | 6 | 10 | 52 | 62 => true,
-        _ => false,
-    }
-}
-
 // 1 sets set a, 52 state b, 62 cursor b; what the others set is no register of these.
 pub fn run(r: Record, g: Given) -> Seen
     ensures { λ s. ⌜ s .behind .many ≤ 1280 ⌝ }

@@ -1,0 +1,2 @@
+-- The laws that several functions' proofs cite.
+mod Parts
