@@ -29,22 +29,6 @@ struct Done {
     behind: Behind,
 }
 
-fn asks(op: u64) -> bool {
-    match op {
-        29 | 32 | 33 | 34 | 35 | 36 | 37 | 38 | 40 | 41 | 43 | 44 => true,
-        _ => false,
-    }
-}
-
-fn call(r: Record, b: Board, regs: &mut [u64; 256], ids: &[u32; 224]) -> Turn
-    requires { ⌜ (r .a < 8) × (r .b < 8) ⌝ }
-{
-    if asks(r.op) {
-        return changes::after(b, asks::run(r, b, regs, ids));
-    }
-    changes::run(r, b, regs, ids)
-}
-
 // The calls that are lent no cells, and the records that set a part of the board by hand.
 fn called(t: Turn) -> Done
     ensures { λ d. ⌜ d .behind .many ≤ 2048 ⌝ }
@@ -126,7 +110,10 @@ fn step(r: Record, b: Board, regs: &mut [u64; 256], ids: &mut [u32; 224]) -> Don
             silent(op, b)
         }
         39 | 42 => lending(r, b),
-        _ => called(call(r, b, regs, ids)),
+        29 | 32 | 33 | 34 | 35 | 36 | 37 | 38 | 40 | 41 | 43 | 44 => {
+            called(changes::after(b, asks::run(r, b, regs, ids)))
+        }
+        _ => called(changes::run(r, b, regs, ids)),
     }
 }
 
