@@ -1,7 +1,7 @@
-// Batches of 256 closings in a loop, by value and lent, exported for the comparison's `speed`. Each turn goes on with the board
-// that the last one handed back, so that no turn can be left out.
+// Batches of 256 closings in a loop, exported for the comparison's `speed`. Each turn goes on with the board that the last one handed
+// back, so that no turn can be left out.
 //
-// bench_many, bench_lent
+// bench_many: the closings by value. bench_lent: the same closings lent.
 ghost use Prim.Native.Nat.{_<_};
 use board::Board;
 use closing::Closing;

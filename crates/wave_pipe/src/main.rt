@@ -1,5 +1,7 @@
-// The wave's probe behind a pipe: scripts come in by frames of 65,536 bytes, and the answers to each frame go out before the next is read. It ends
+// The wave behind a pipe: scripts come in by frames of 65,536 bytes, and the answers to each frame go out before the next is read. It ends
 // with the input.
+//
+// The comparison with the Rust (differential/run) reaches the calls through it.
 const FRAME: usize = 65536;
 
 fn main() {
