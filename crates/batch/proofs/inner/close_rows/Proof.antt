@@ -93,22 +93,28 @@ shut-row-requires c κs =
 array-set-from-rows : tie.Need-array-set-from-rows Inv-loop μ-loop
 array-set-from-rows c = search (needs, mapped)
 
+-- where the two ways meet again
+module _ (c : tie.Joined1 Inv-loop μ-loop) where
+  abbrev f : tie.After-find Inv-loop μ-loop
+  f = c .before
+
+  few : c .if1 .yes ≤ loop f .loop .i + 1
+  few =
+      ⊎-elim
+      (λ w. omega (arith, w .6, w .4 .ensures, more-most (w .2 .result .yes) (loop f .loop .yes), loop f .loop .inv .1))
+      (λ w. omega (arith, w .2, loop f .loop .inv .1))
+      (c .if1 .came)
+
+  same : tally (c .if1 .rows) (c .if1 .yes) ≡ tallied (start f .args .count) (now f) (here f)
+  same =
+      let n = start f .args .count in
+      ⊎-elim
+      (λ w. (λ i. tally (w .5 i) ((w .6 ∙ w .4 .ensures) i)) ∙ tallied-known n (now f) (here f) (f .find .result) (seat-is f) (w .0 .taken) (w .2 .result) (w .2 .ensures))
+      (λ w. (λ i. tally (w .1 i) (w .2 i)) ∙ tallied-unknown n (now f) (here f) (let h = w .0 .left in rw (seat-is f) at h))
+      (c .if1 .came)
+
 loop-again : tie.Need-loop-again Inv-loop μ-loop
-loop-again c =
-    let f = c .before in
-    let n = start f .args .count in
-    let j = c .if1 in
-    let few : j .yes ≤ loop f .loop .i + 1 =
-    ⊎-elim
-    (λ w. omega (arith, w .6, w .4 .ensures, more-most (w .2 .result .yes) (loop f .loop .yes), loop f .loop .inv .1))
-    (λ w. omega (arith, w .2, loop f .loop .inv .1))
-    (j .came) in
-    let same : tally (j .rows) (j .yes) ≡ tallied n (now f) (here f) =
-    ⊎-elim
-    (λ w. (λ i. tally (w .5 i) ((w .6 ∙ w .4 .ensures) i)) ∙ tallied-known n (now f) (here f) (f .find .result) (seat-is f) (w .0 .taken) (w .2 .result) (w .2 .ensures))
-    (λ w. (λ i. tally (w .1 i) (w .2 i)) ∙ tallied-unknown n (now f) (here f) (let h = w .0 .left in rw (seat-is f) at h))
-    (j .came) in
-    (omega (arith, within f), few, same ∙ next-is f)
+loop-again c = (omega (arith, within (c .before)), few c, same c ∙ next-is (c .before))
 
 returns : tie.Need-returns Inv-loop μ-loop
 returns c =
