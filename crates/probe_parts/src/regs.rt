@@ -113,7 +113,7 @@ pub fn values(regs: &[u64; 256]) -> [i32; 160]
     values
 }
 
-// Four values from i on, two to a word; those past the list's end are passed over.
+// Four values from i on, two to a word; none of them where the list has no room for all.
 pub fn put_values(regs: &mut [u64; 256], i: usize, lo: u64, hi: u64) {
     if i < LISTED - 3 {
         let at = VALUES + i;
