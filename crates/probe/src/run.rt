@@ -1,16 +1,18 @@
-// A script, record by record.
+// A script, record by record. What a record leaves and answers goes by value, so that only `write` is lent the bytes to write to.
 ghost use mathlib.Core.Path.{_≡_};
 ghost use Prim.Native.Nat.{_+_, _<_, _≤_};
 ghost use lib.ListN.{length};
 use super::turns;
 use domain_pairs::Kept;
 use probe_parts::behind;
+use probe_parts::behind::Behind;
 use probe_parts::lent;
 use probe_parts::record;
 use probe_parts::record::Record;
 use probe_parts::regs;
 use probe_parts::regs::Register;
 use probe_parts::reply;
+use probe_parts::reply::Reply;
 use probe_parts::turn::Turn;
 
 // The most bytes that a record's answer and lent cells take.
@@ -72,24 +74,60 @@ fn run(r: Record, regs: &mut [u64; 256]) -> Turn
     t
 }
 
-// Runs a record, writes what it answered at `to`, and answers how many bytes that took.
-fn step(r: Record, regs: &mut [u64; 256], out: &mut [u8], to: usize) -> usize
-    requires { ⌜ (r .a < 8) × (r .b < 8) × (to + 2112 ≤ length (now out)) ⌝ }
-    ensures { λ n. ⌜ (n ≤ 2112) × (length (now (out .exit)) ≡ length (now (out .entry))) ⌝ }
+// What a record answered, the register that its answer shows, and the cells behind the answer.
+struct Done {
+    reply: Reply,
+    left: Register,
+    behind: Behind,
+}
+
+fn alone(t: Turn) -> Done
+    ensures { λ d. ⌜ d .behind .many ≤ 2048 ⌝ }
+{
+    let reply = t.reply;
+    let left = t.left;
+    Done {
+        reply,
+        left,
+        behind: behind::nothing(),
+    }
+}
+
+// A call that is lent cells leaves domain a as it was.
+fn lending(r: Record, left: Register) -> Done
+    requires { ⌜ r .b < 8 ⌝ }
+    ensures { λ d. ⌜ d .behind .many ≤ 2048 ⌝ }
+{
+    let shown = lent::run(r, regs::domain(left));
+    let answer = shown.answer;
+    let behind = shown.behind;
+    Done {
+        reply: reply::counted(answer),
+        left,
+        behind,
+    }
+}
+
+fn step(r: Record, regs: &mut [u64; 256]) -> Done
+    requires { ⌜ (r .a < 8) × (r .b < 8) ⌝ }
+    ensures { λ d. ⌜ d .behind .many ≤ 2048 ⌝ }
 {
     if 60 <= r.op {
-        let next = to + 64;
-        let left = regs::get(regs, r.a);
-        let shown = lent::run(r, regs::domain(left));
-        let answer = shown.answer;
-        let cells = shown.behind;
-        reply::write(r.op, reply::counted(answer), left, out, to);
-        behind::write(cells, out, next);
-        return 64 + cells.many;
+        return lending(r, regs::get(regs, r.a));
     }
-    let t = run(r, regs);
-    reply::write(r.op, t.reply, t.left, out, to);
-    64
+    alone(run(r, regs))
+}
+
+// Writes the answer at `to` and what stands behind it, and answers where the next answer goes.
+fn write(op: u64, d: Done, out: &mut [u8], to: usize) -> usize
+    requires { ⌜ (d .behind .many ≤ 2048) × (to + 2112 ≤ length (now out)) ⌝ }
+    ensures { λ next. ⌜ (next ≤ length (now (out .exit))) × (length (now (out .exit)) ≡ length (now (out .entry))) ⌝ }
+{
+    let next = to + 64;
+    let cells = d.behind;
+    reply::write(op, d.reply, d.left, out, to);
+    behind::write(cells, out, next);
+    next + cells.many
 }
 
 // Runs the script on registers that begin at 0, as far as `out` has room for what any record may answer, and answers how many
@@ -106,8 +144,9 @@ pub extern "C" fn probe_domain(script: &[u8], out: &mut [u8]) -> usize
             return to;
         }
         let r = record::read(script, at);
-        to += step(r, &mut regs, out, to);
         at += record::SIZE;
+        let done = step(r, &mut regs);
+        to = write(r.op, done, out, to);
     }
     to
 }

@@ -82,28 +82,15 @@ fn ask(op: u64, d: BitDomain, other: BitDomain, v: Value) -> Reply {
     }
 }
 
-fn change(op: u64, d: BitDomain, other: BitDomain, v: Value, m: Mask, s: BitState) -> Turn {
+fn change(r: Record, d: BitDomain, other: BitDomain, s: BitState) -> Turn {
+    let v = Value(r.v);
+    let m = Mask { lo: r.lo, hi: r.hi };
+    let op = r.op;
     match op {
         32 | 33 | 45 => changed(calls::changed(op, d, v, m)),
         34 | 35 | 36 | 37 => narrowed(calls::cut(op, d, v)),
         _ => narrowed(calls::joined(op, d, other, m, s)),
     }
-}
-
-fn changes(op: u64) -> bool {
-    match op {
-        32 | 33 | 34 | 35 | 36 | 37 | 40 | 41 | 45 | 49 | 51 => true,
-        _ => false,
-    }
-}
-
-fn call(r: Record, old: Register, other: BitDomain, s: BitState) -> Turn {
-    let d = regs::domain(old);
-    let v = Value(r.v);
-    if changes(r.op) {
-        return change(r.op, d, other, v, Mask { lo: r.lo, hi: r.hi }, s);
-    }
-    after(old, ask(r.op, d, other, v))
 }
 
 // The records that are no call: 1 sets the register, the others leave it.
@@ -115,21 +102,31 @@ fn set(r: Record, old: Register) -> Turn {
     after(old, reply::none())
 }
 
+// What a record that is given no list leaves of domain a.
+fn call(r: Record, old: Register, other: BitDomain, s: BitState) -> Turn {
+    let op = r.op;
+    match op {
+        0 | 1 | 10 | 52 => set(r, old),
+        2 | 3 | 4 | 5 | 6 | 7 => make(op, Value(r.v), Value(r.w), old, other),
+        32 | 33 | 34 | 35 | 36 | 37 | 40 | 41 | 45 | 49 | 51 => {
+            change(r, regs::domain(old), other, s)
+        }
+        _ => after(old, ask(op, regs::domain(old), other, Value(r.v))),
+    }
+}
+
 // What is left of domain a.
 pub fn on_domain(r: Record, regs: &[u64; 256]) -> Turn
     requires { ⌜ (r .a < 8) × (r .b < 8) ⌝ }
 {
     let old = regs::get(regs, r.a);
-    let other = regs::domain(regs::get(regs, r.b));
     let op = r.op;
     match op {
-        0 | 1 | 10 | 52 => set(r, old),
-        2 | 3 | 4 | 5 | 6 | 7 => make(op, Value(r.v), Value(r.w), old, other),
         8 | 9 => gather(r, regs, old),
         _ => call(
             r,
             old,
-            other,
+            regs::domain(regs::get(regs, r.b)),
             regs::state(regs::get(regs, regs::STATES + r.b)),
         ),
     }
