@@ -1,4 +1,4 @@
-// The run of ids that lists are parts of.
+// The run of ids that lists are parts of: a record sets four of them, and a list is some of them in a row.
 ghost use Prim.Native.Nat.{_≤_};
 use probe_parts::record::Record;
 use probe_parts::wire::half;
@@ -10,7 +10,7 @@ pub fn clear(ids: &mut [u32; 224]) {
     *ids = [0u32; 224];
 }
 
-// Four ids from place n on; those past the run's end are passed over.
+// Four ids from place n on; none of them where the run has no room for all.
 pub fn put(ids: &mut [u32; 224], r: Record) {
     let at = r.n;
     if at < IDS - 3 {
