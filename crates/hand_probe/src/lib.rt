@@ -211,48 +211,38 @@ fn board(script: &[u8], count: usize) -> Board
     b
 }
 
-// What a call on a board answered, as a number, and the board that it left.
-struct Left {
-    answer: u64,
-    board: Board,
-}
-
-fn of_batch(r: Batched) -> Left {
-    let a = r.answer;
-    let board = r.board;
-    Left {
-        answer: counted(a),
-        board,
-    }
-}
-
-fn of_closed(r: Closed) -> Left {
-    let a = r.answer;
-    let board = r.board;
-    Left {
-        answer: told(a),
-        board,
-    }
-}
-
-fn flag(b: Board) -> u64 {
-    if b.changed {
-        return 1;
-    }
-    0
-}
-
-// An answer, the flag, and the masks of all rows; then one number over all of the board, its count and its marks.
-fn show(r: Left, out: &mut [u8], to: usize)
+// An answer as a number, the flag, and the masks of all rows; then one number over all of the board, its count and its marks.
+fn show(answer: u64, b: Board, out: &mut [u8], to: usize)
     requires { ⌜ to + 2064 ≤ length (now out) ⌝ }
     ensures { λ _. ⌜ length (now (out .exit)) ≡ length (now (out .entry)) ⌝ }
 {
-    let b = r.board;
     let rows = b.rows;
     let whole = left(b);
-    wire::put_words(&[r.answer, flag(b)], out, to);
+    let mut flag = 0;
+    if b.changed {
+        flag = 1;
+    }
+    wire::put_words(&[answer, flag], out, to);
     put_rows(rows, false, out, to + 16);
     wire::put_words(&[whole.lo, whole.hi, whole.bounds], out, to + 1040);
+}
+
+fn show_batch(r: Batched, out: &mut [u8], to: usize)
+    requires { ⌜ to + 2064 ≤ length (now out) ⌝ }
+    ensures { λ _. ⌜ length (now (out .exit)) ≡ length (now (out .entry)) ⌝ }
+{
+    let a = r.answer;
+    let b = r.board;
+    show(counted(a), b, out, to);
+}
+
+fn show_closed(r: Closed, out: &mut [u8], to: usize)
+    requires { ⌜ to + 2064 ≤ length (now out) ⌝ }
+    ensures { λ _. ⌜ length (now (out .exit)) ≡ length (now (out .entry)) ⌝ }
+{
+    let a = r.answer;
+    let b = r.board;
+    show(told(a), b, out, to);
 }
 
 fn closed_here(b: Board, c: Closing) -> Closed {
@@ -286,55 +276,36 @@ fn asked(script: &[u8]) -> Board
 }
 
 // The batch by value.
-fn many(script: &[u8]) -> Left
+fn many(script: &[u8], b: Board) -> Batched
     requires { ⌜ 8192 ≤ length (now script) ⌝ }
 {
     let n = wire::half(wire::word(script, 8) / 4294967296) as usize;
-    of_batch(batch::close_many(asked(script), run(script), n))
-}
-
-// The batch lent.
-fn lent(script: &[u8]) -> Left
-    requires { ⌜ 8192 ≤ length (now script) ⌝ }
-{
-    of_batch(batch_lent::close_run(asked(script), run(script)))
+    batch::close_many(b, run(script), n)
 }
 
 // The batch's first closing, through a reference to the board.
-fn first(script: &[u8]) -> Left
+fn first(script: &[u8], b: Board) -> Closed
     requires { ⌜ 8192 ≤ length (now script) ⌝ }
 {
-    of_closed(closed_here(asked(script), closing(script, CLOSINGS)))
+    closed_here(b, closing(script, CLOSINGS))
 }
 
-fn show_many(script: &[u8], out: &mut [u8])
+// The batch by value, and the batch lent.
+fn show_both(script: &[u8], b: Board, out: &mut [u8])
     requires { ⌜ (8192 ≤ length (now script)) × (8192 ≤ length (now out)) ⌝ }
     ensures { λ _. ⌜ length (now (out .exit)) ≡ length (now (out .entry)) ⌝ }
 {
-    show(many(script), out, 0);
-}
-
-fn show_lent(script: &[u8], out: &mut [u8])
-    requires { ⌜ (8192 ≤ length (now script)) × (8192 ≤ length (now out)) ⌝ }
-    ensures { λ _. ⌜ length (now (out .exit)) ≡ length (now (out .entry)) ⌝ }
-{
-    show(lent(script), out, 1064);
-}
-
-fn show_first(script: &[u8], out: &mut [u8])
-    requires { ⌜ (8192 ≤ length (now script)) × (8192 ≤ length (now out)) ⌝ }
-    ensures { λ _. ⌜ length (now (out .exit)) ≡ length (now (out .entry)) ⌝ }
-{
-    show(first(script), out, 2128);
+    show_batch(many(script, b), out, 0);
+    show_batch(batch_lent::close_run(b, run(script)), out, 1064);
 }
 
 fn batches(script: &[u8], out: &mut [u8])
     requires { ⌜ (8192 ≤ length (now script)) × (8192 ≤ length (now out)) ⌝ }
     ensures { λ _. ⌜ length (now (out .exit)) ≡ length (now (out .entry)) ⌝ }
 {
-    show_many(script, out);
-    show_lent(script, out);
-    show_first(script, out);
+    let b = asked(script);
+    show_both(script, b, out);
+    show_closed(first(script, b), out, 2128);
 }
 
 // The answers to one frame: 6,400 bytes to removals, 3,192 to a batch. Where there is less room than a frame, none.
