@@ -1,11 +1,11 @@
 -- Every answer of an exported call of the board has room in its code, so that `toldBy` reads it back: a list that is looked at has at most 64 ids
 -- and a batch at most 256 closings, so no place and no count comes near 2 ^ 56. Assumes nothing.
-use mathlib.Core.Path.{_≡_, refl, sym, ap, subst}
+use mathlib.Core.Path.{_≡_, refl, ap}
 use mathlib.Core.Bool.{Bool, true, false, not, cond}
 use mathlib.Core.List.{List, [], _∷_, _++_, map}
 use Prim.Native.Nat.{ℕ, zero, suc, _+_, _≤_, _<_, _^_}
 use native.Mathlib.Omega.{arith}
-use lib.Dec.{T, eqb, leb, ltb}
+use lib.Dec.{eqb, leb, ltb}
 use lib.IntN.{ℤ}
 use lib.ListN.{length, drop}
 use mir.Syntax.{w32}
@@ -13,23 +13,16 @@ use mir.Val.{SFits}
 use borrow.Author.Tests.{leb-true, ltb-true}
 use Rattle.rules.specs.Board as rules
 use Rattle.rules.specs.Pass.{pass}
-use Rattle.rules.specs.Sets.{Chutes, has, every, some}
+use Rattle.rules.specs.Sets.{Chutes, every, some}
 use Rattle.rules.specs.Refusals.{placeOf}
 use Rattle.rules.specs.declared.Refusal.{Refusal}
-use Rattle.rules.specs.declared.Refusal.the-variants.{Broken, Full, TrialOpen, TooDeep, NoMark, Unknown, Repeated, TooLong, Empty, NoRoom}
-use Rattle.rules.proofs.SetLaws.{has-head}
-use Rattle.offset.specs.Universe.{value-in}
-use Rattle.mask.specs.Val.{val}
-use lib.Count.{ones-le}
-use Rattle.domain.specs.Set.{setOf, width, well}
+use Rattle.rules.specs.declared.Refusal.the-variants.{Broken, Full, TrialOpen, TooDeep, NoMark, Unknown, Repeated, TooLong, NoRoom}
+use Rattle.domain.specs.Set.{setOf, well}
 use Rattle.domain.specs.Calls.{invalid, at, firstOf, lastOf, onlyOf, newOf, sizeOf, isFixedOf, isEmptyOf, fixedValueOf, minOf, maxOf}
 use Rattle.domain.specs.declared.BitDomain.{BitDomain}
 use Rattle.domain.specs.declared.Told.the-variants as told
 use Rattle.domain.specs.declared.Counted.the-variants as counted
 use Rattle.domain.specs.declared.Found.the-variants as found
-use Rattle.domain.proofs.Laws.{values-offset}
-use Rattle.domain.proofs.Places.{well-width, well-fits, well-in}
-use Rattle.domain.proofs.Ends.{size-ones}
 use Rattle.domain_values.specs.Calls.{fromValuesOf, Written, inFront, toVecOf}
 use Rattle.domain_values.specs.Calls as written-values
 use Rattle.closing.specs.declared.Closing.{Closing}
@@ -56,10 +49,11 @@ use Rattle.batch.specs.declared.Batched.{Batched}
 use Rattle.batch.specs.Batch.{closedBy, closedAll, isYes, yeses, batchOf}
 use Rattle.state.specs.Layout.{readOf}
 use Rattle.state.specs.Typed.{Typed}
-use Rattle.reply.specs.Told.{Kind, nothing, yesNo, pair, number, toldBy, Of, done-of, said-of, pair-of, count-of, chute-of, denied-of}
+use Rattle.reply.specs.Told.{Kind, nothing, yesNo, pair, number, toldBy, Of, done-of, said-of, pair-of, count-of}
 use Rattle.reply.specs.Told as kinds
 use Rattle.reply.specs.Through.{boards, lentTo, Reply, through, answered}
 use Rattle.reply.proofs.LentLaws as lent
+use Rattle.reply.proofs.RoomLaws.{refused-of, broken-of, few-held, held-fits, only-of}
 use Rattle.pirozhkan.specs.Calls.{named, chute, ranging, listing, closing, resetting, spreading, marking, restoring, keeping, whetherReady, sizing, whetherAssigned, assignedTo, whetherInconsistent, whetherChanged}
 use Rattle.pirozhkan.specs.Batches.{batching}
 
@@ -72,12 +66,6 @@ pub through-told : (k : Kind) (f : Board → Reply) → ((b : Board) → Of k (f
 through-told k f room ws = lent.through-told boards k f ws (room (readOf ws))
 
 -- ---- the parts
-
-no : {k : Kind} (r : Refusal) → placeOf r < 2 ^ 56 → Of k (rules.denied r)
-no r l = denied-of {r = r} l
-
-broken : {k : Kind} → Of k (rules.denied Broken)
-broken = no Broken (omega arith)
 
 entering : (d : BitDomain) (id : ℕ) (b : Board) → Of nothing (outcomeOf (enterOf b (named id) d .answer))
 unfolding enterOf
@@ -92,19 +80,19 @@ entering d id b = go (wellBoard b) (eqb (b .marks) 0) (ltb (seat b id) nowhere) 
     go : (w m p n : Bool) → Of nothing (outcomeOf (cond w (cond m (cond p (done known) (cond n (done new) (denied b Full))) (denied b TrialOpen)) (denied b Broken) .answer))
     go true true true n = done-of
     go true true false true = done-of
-    go true true false false = no Full (omega arith)
-    go true false p n = no TrialOpen (omega arith)
-    go false m p n = broken
+    go true true false false = refused-of Full (omega arith)
+    go true false p n = refused-of TrialOpen (omega arith)
+    go false m p n = broken-of
 
 trying : (w y : Bool) (c b : Board) (r : Refusal) → placeOf r < 2 ^ 56 → Of nothing (outcomeOf (cond w (cond y (done c) (denied b r)) (denied b Broken) .answer))
 trying true true c b r l = done-of
-trying true false c b r l = no r l
-trying false y c b r l = broken
+trying true false c b r l = refused-of r l
+trying false y c b r l = broken-of
 
 telling : (w v y : Bool) → Of yesNo (toldOf (cond w (cond v (told.Is y) (told.Refused Broken)) (told.Refused Broken)))
 telling true true y = said-of y
-telling true false y = broken
-telling false v y = broken
+telling true false y = broken-of
+telling false v y = broken-of
 
 abbrev closes : rules.Kind → Board → ℤ → ℕ → Bool
 closes k b v p = rules.closes k v (setOf (domainAt (b .rows) p))
@@ -133,9 +121,6 @@ listing-near is rs = go (leb (length is) 64) refl
     go true e = scan-near rs [] 0 is (omega (arith, leb-true (length is) 64 e))
     go false e = omega arith
 
-few-held : (d : BitDomain) → well d ≡ true → length (setOf d) ≤ 128
-few-held d w = omega (arith, size-ones (d .min) (d .mask), ones-le (width d) (val (d .mask)) (well-fits d w), well-width d w)
-
 yeses-le : (cs : List Closing) (b : Board) → yeses cs b ≤ length cs
 yeses-le [] b = omega arith
 yeses-le (c ∷ cs) b = go (isYes (closedBy c b .answer)) (yeses-le cs (closedBy c b .board))
@@ -161,7 +146,7 @@ resetting-of b = go (wellBoard b)
   where
     go : (w : Bool) → Of nothing (outcomeOf (cond w (done (withRows b (b .rows) false)) (denied b Broken) .answer))
     go true = done-of
-    go false = broken
+    go false = broken-of
 
 pub marking-of : (b : Board) → Of nothing (marking b .answer)
 unfolding markOf
@@ -184,7 +169,7 @@ closing-of k id v b = go (wellBoard b) (ltb (seat b id) nowhere)
     go : (w p : Bool) → Of yesNo (toldOf (cond w (cond p (closeAt k b v (seat b id)) (said b false)) (unsaid b Broken) .answer))
     go true true = said-of (closes k b v (seat b id))
     go true false = said-of false
-    go false p = broken
+    go false p = broken-of
 
 pub assigned-of : (id : ℕ) (b : Board) → Of yesNo (whetherAssigned id b)
 unfolding isAssignedOf isFixedOf
@@ -200,7 +185,7 @@ changed-of b = go (wellBoard b)
   where
     go : (w : Bool) → Of yesNo (toldOf (cond w (told.Is (b .changed)) (told.Refused Broken)))
     go true = said-of (b .changed)
-    go false = broken
+    go false = broken-of
 
 -- ---- lists
 
@@ -210,8 +195,8 @@ ready-of is b = go (wellBoard b) (rules.listing is (view b .now)) (listing-near 
   where
     go : (w : Bool) (v : rules.Verdict) → verdictPlace v ≤ 64 → (y : Bool) → Of yesNo (toldOf (cond w (judge v y) (told.Refused Broken)))
     go true rules.accepted near y = said-of y
-    go true (rules.refused r) near y = no r (let z : placeOf r ≤ 64 = near in omega arith)
-    go false v near y = broken
+    go true (rules.refused r) near y = refused-of r (let z : placeOf r ≤ 64 = near in omega arith)
+    go false v near y = broken-of
 
 pub spreading-of : (is : List ℕ) (b : Board) → Of pair (spreading is b .answer)
 unfolding spreadOf prunedOf
@@ -222,8 +207,8 @@ spreading-of is b = go (wellBoard b) (verdictOf (idAt (b .rows)) (b .count) is) 
 
     go : (w : Bool) (v : rules.Verdict) → verdictPlace v ≤ 64 → Of pair (pairOf (cond w (handed b (prunedBy v (b .rows) ps)) (refused b Broken) .answer))
     go true rules.accepted near = pair-of (pass (map (λ p. setOf (domainAt (b .rows) p)) ps) .changed) (pass (map (λ p. setOf (domainAt (b .rows) p)) ps) .consistent)
-    go true (rules.refused r) near = no r (let z : placeOf r ≤ 64 = near in omega arith)
-    go false v near = broken
+    go true (rules.refused r) near = refused-of r (let z : placeOf r ≤ 64 = near in omega arith)
+    go false v near = broken-of
 
 -- ---- how many
 
@@ -236,8 +221,8 @@ sizing-of id b = go (wellBoard b) (well (domainOf b id)) refl
 
     go : (w v : Bool) → well d ≡ v → Of number (countOf (cond w (cond v (counted.Count (length (setOf d))) (counted.Refused Broken)) (counted.Refused Broken)))
     go true true e = count-of {n = length (setOf d)} (omega (arith, few-held d e))
-    go true false e = broken
-    go false v e = broken
+    go true false e = broken-of
+    go false v e = broken-of
 
 -- closings as many as a batch may have
 pub batching-of : (cs : List Closing) → length cs ≤ 256 → (b : Board) → Of number (batching cs b .answer)
@@ -246,7 +231,7 @@ batching-of cs h b = go (wellBoard b)
   where
     go : (w : Bool) → Of number (countOf (cond {A = Batched} w (record { board = closedAll cs b; answer = counted.Count (yeses cs b) }) (record { board = b; answer = counted.Refused Broken }) .answer))
     go true = count-of {n = yeses cs b} (omega (arith, yeses-le cs b))
-    go false = broken
+    go false = broken-of
 
 pub values-of : (id : ℕ) (cells : List ℤ) (b : Board) → Of number (countOf (getIntoOf b (named id) cells .answer))
 unfolding getIntoOf toVecOf
@@ -256,10 +241,10 @@ values-of id cells b = go (wellBoard b) (well d) refl (ltb (length cells) (lengt
     d = domainOf b id
 
     go : (w v : Bool) → well d ≡ v → (t : Bool) → Of number (countOf (cond {A = Written} w (cond v (cond t (written-values.written (counted.Refused NoRoom) cells) (inFront (setOf d) cells)) (written-values.written (counted.Refused Broken) cells)) (written-values.written (counted.Refused Broken) cells) .answer))
-    go true true e true = no NoRoom (omega arith)
+    go true true e true = refused-of NoRoom (omega arith)
     go true true e false = count-of {n = length (setOf d)} (omega (arith, few-held d e))
-    go true false e t = broken
-    go false v e t = broken
+    go true false e t = broken-of
+    go false v e t = broken-of
 
 names-length : (id : ℕ → ℕ) (k n : ℕ) → length (namesOf id k n) ≡ n
 names-length id k zero = refl
@@ -273,16 +258,11 @@ ids-of cells b = go (wellBoard b) refl (ltb (length cells) (length names))
     names = namesOf (idAt (b .rows)) 0 (b .count)
 
     go : (w : Bool) → wellBoard b ≡ w → (t : Bool) → Of number (countOf (cond {A = Filled} w (cond t (filled (counted.Refused NoRoom) cells) (filled (counted.Count (length names)) (names ++ drop (length names) cells))) (filled (counted.Refused Broken) cells) .answer))
-    go true e true = no NoRoom (omega arith)
+    go true e true = refused-of NoRoom (omega arith)
     go true e false = count-of {n = length names} (omega (arith, names-length (idAt (b .rows)) 0 (b .count), well-says (b .rows) (b .count) (b .saved) (b .marks) e .few-rows))
-    go false e t = broken
+    go false e t = broken-of
 
 -- ---- a chute: an i32, since the ends of every universe are
-
-held-fits : (d : BitDomain) → well d ≡ true → SFits w32 (d .min) → SFits w32 (d .max) → (x : ℤ) → T (has x (setOf d)) → SFits w32 x
-held-fits d w f g x h =
-    let r = values-offset (d .min) (d .mask) x h in
-    subst (λ (z : ℤ). SFits w32 z) (sym (r .1)) (value-in (d .min) (d .max) (r .0) f g (well-in d w (r .0) (r .2)))
 
 -- a row's domain, or that of no row
 ends-fit : (b : Board) (id : ℕ) → Typed b → SFits w32 (domainOf b id .min) × SFits w32 (domainOf b id .max)
@@ -294,17 +274,15 @@ ends-fit b id t = go (ltb (seat b id) nowhere) refl
 
 pub value-of : (id : ℕ) (b : Board) → Typed b → Of kinds.chute (assignedTo id b)
 unfolding assignedValueOf fixedValueOf
-value-of id b t = go (wellBoard b) (well d) refl (setOf d) refl
+value-of id b t = go (wellBoard b) (well d) refl
   where
     d : BitDomain
     d = domainOf b id
 
-    go : (w v : Bool) → well d ≡ v → (s : Chutes) → setOf d ≡ s → Of kinds.chute (chuteOf (cond w (cond v (onlyOf s) (found.Refused Broken)) (found.Refused Broken)))
-    go true true e [] q = no Empty (omega arith)
-    go true true e (x ∷ []) q = let f = ends-fit b id t in chute-of {v = x} (held-fits d e (f .0) (f .1) x (subst (λ (s : Chutes). T (has x s)) (sym q) (has-head x [])))
-    go true true e (x ∷ y ∷ s) q = no Empty (omega arith)
-    go true false e s q = broken
-    go false v e s q = broken
+    go : (w v : Bool) → well d ≡ v → Of kinds.chute (chuteOf (cond w (cond v (onlyOf (setOf d)) (found.Refused Broken)) (found.Refused Broken)))
+    go true true e = let f = ends-fit b id t in only-of (setOf d) (held-fits d e (f .0) (f .1))
+    go true false e = broken-of
+    go false v e = broken-of
 
 -- ---- both ends go into lent cells: a refusal names no place
 

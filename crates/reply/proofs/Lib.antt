@@ -1,4 +1,5 @@
 -- Laws that belong to no one function.
 pub mod ToldLaws
+pub mod RoomLaws
 pub mod LentLaws
 pub mod ThroughLaws
