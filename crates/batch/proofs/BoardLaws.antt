@@ -2,9 +2,10 @@
 use mathlib.Core.Path.{_≡_, refl, sym, ap, _∙_, subst}
 use mathlib.Core.Bool.{Bool, true, false, _||_, cond}
 use mathlib.Core.List.{List, [], _∷_}
-use Prim.Native.Nat.{ℕ, suc, _+_}
+use Prim.Native.Nat.{ℕ, suc, _+_, _≤_}
 use native.Mathlib.Omega.{arith}
 use lib.Dec.{ltb}
+use lib.ListN.{length}
 use borrow.Author.Tests.{lt-ltb, ltb-true, ltb-false}
 use Rattle.rules.specs.Board as rules
 use Rattle.rules.proofs.Tests.{or-false}
@@ -23,7 +24,7 @@ use Rattle.board_close.proofs.Closing.{close-known, close-unknown}
 use Rattle.board_close.proofs.Theorems.{close-obeys}
 use Rattle.batch.specs.Batch.{closedBy, closedAll, isYes, more, yeses, closingOf}
 use Rattle.batch.specs.Tallies.{Fit, shutAt, tellsAt, tallied, tallyOf}
-use Rattle.batch.proofs.TallyLaws.{tally}
+use Rattle.batch.proofs.TallyLaws.{tally, more-most}
 
 -- the rows of a well-formed board
 pub board-fit : (b : Board) → wellBoard b ≡ true → Fit (b .rows) (b .count)
@@ -61,6 +62,14 @@ module _ (c : Closing) (b : Board) (w : wellBoard b ≡ true) where
   yeses-more cs = ap (λ (r : Closed). more (isYes (r .answer)) (yeses cs (r .board))) closed-is
 
 -- ---- all of them
+
+-- on any board no more of them answer yes than there are
+pub yeses-most : (cs : List Closing) (b : Board) → yeses cs b ≤ length cs
+yeses-most [] b = omega arith
+yeses-most (c ∷ cs) b =
+    let r = yeses-most cs (closedBy c b .board) in
+    let m = more-most (isYes (closedBy c b .answer)) (yeses cs (closedBy c b .board)) in
+    omega arith
 
 flag : (x y : Bool) (n : ℕ) → (x || y) || ltb 0 n ≡ x || ltb 0 (more y n)
 flag true y n = refl

@@ -19,7 +19,7 @@ use Rattle.batch.specs.Batch.{closedBy, closedAll, isYes, more, yeses, batchOf}
 use Rattle.batch.specs.Tallies.{untold, tallyOf}
 use Rattle.batch.specs.declared.Batched.{Batched}
 use Rattle.batch.specs.declared.Tally.{Tally}
-use Rattle.batch.proofs.TallyLaws.{more-most}
+use Rattle.batch.proofs.BoardLaws.{yeses-most}
 use Rattle.batch.proofs.Theorems.{counts, batch-all, batch-refuses, batch-obeys, tally-batch}
 use Rattle.batch_lent.specs.Further.{Going, furtherBy, furtherOf}
 
@@ -38,13 +38,6 @@ yeses-then [] ys b = omega arith
 yeses-then (x ∷ xs) ys b =
     ap (more (isYes (closedBy x b .answer))) (yeses-then xs ys (closedBy x b .board))
     ∙ sums (isYes (closedBy x b .answer)) (yeses xs (closedBy x b .board)) (yeses ys (closedAll xs (closedBy x b .board)))
-
-yeses-most : (xs : List Closing) (b : Board) → yeses xs b ≤ length xs
-yeses-most [] b = omega arith
-yeses-most (x ∷ xs) b =
-    let r = yeses-most xs (closedBy x b .board) in
-    let m = more-most (isYes (closedBy x b .answer)) (yeses xs (closedBy x b .board)) in
-    omega arith
 
 -- ---- of a batch
 

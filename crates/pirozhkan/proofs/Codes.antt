@@ -46,7 +46,8 @@ use Rattle.board_ask.specs.Ready.{assigned, judge, readyOf}
 use Rattle.board_spread.specs.Spread.{pairOf, prunedBy, prunedOf, handed, refused, spreadOf}
 use Rattle.trial.specs.Marks.{markOf, restoreOf, keepOf, marked, restored, released}
 use Rattle.batch.specs.declared.Batched.{Batched}
-use Rattle.batch.specs.Batch.{closedBy, closedAll, isYes, yeses, batchOf}
+use Rattle.batch.specs.Batch.{closedAll, yeses, batchOf}
+use Rattle.batch.proofs.BoardLaws.{yeses-most}
 use Rattle.state.specs.Layout.{readOf}
 use Rattle.state.specs.Typed.{Typed}
 use Rattle.reply.specs.Told.{Kind, nothing, yesNo, pair, number, toldBy, Of, done-of, said-of, pair-of, count-of}
@@ -120,17 +121,6 @@ listing-near is rs = go (leb (length is) 64) refl
     go : (t : Bool) → leb (length is) 64 ≡ t → verdictPlace (cond t (rules.scan rs [] 0 is) (rules.refused TooLong)) ≤ 64
     go true e = scan-near rs [] 0 is (omega (arith, leb-true (length is) 64 e))
     go false e = omega arith
-
-yeses-le : (cs : List Closing) (b : Board) → yeses cs b ≤ length cs
-yeses-le [] b = omega arith
-yeses-le (c ∷ cs) b = go (isYes (closedBy c b .answer)) (yeses-le cs (closedBy c b .board))
-  where
-    n : ℕ
-    n = yeses cs (closedBy c b .board)
-
-    go : (y : Bool) → n ≤ length cs → cond y (suc n) n ≤ suc (length cs)
-    go true h = omega arith
-    go false h = omega arith
 
 -- ---- calls that answer that they are done
 
@@ -230,7 +220,7 @@ unfolding batchOf
 batching-of cs h b = go (wellBoard b)
   where
     go : (w : Bool) → Of number (countOf (cond {A = Batched} w (record { board = closedAll cs b; answer = counted.Count (yeses cs b) }) (record { board = b; answer = counted.Refused Broken }) .answer))
-    go true = count-of {n = yeses cs b} (omega (arith, yeses-le cs b))
+    go true = count-of {n = yeses cs b} (omega (arith, yeses-most cs b))
     go false = broken-of
 
 pub values-of : (id : ℕ) (cells : List ℤ) (b : Board) → Of number (countOf (getIntoOf b (named id) cells .answer))
