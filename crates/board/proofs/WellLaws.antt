@@ -13,14 +13,10 @@ use Rattle.offset.specs.Places.{spanOf}
 use Rattle.domain.specs.Set.{pair, well, width}
 use Rattle.domain.specs.declared.BitDomain.{BitDomain}
 use Rattle.saved.specs.Saved.{fitUnder}
-use Rattle.saved.proofs.UptoLaws.{all, each, one-fails}
+use Rattle.saved.proofs.UptoLaws.{and-says, all, each, one-fails}
 use Rattle.board.specs.Rows.{idAt, domainAt, seatIn}
 use Rattle.board.specs.Well.{differ, wellRow, wellRows, wellParts, lookOf, broken}
 use Rattle.board.specs.declared.Row.{Row}
-
-pub and-says : (a b : Bool) → a && b ≡ true → (a ≡ true) × (b ≡ true)
-and-says true b e = (refl, e)
-and-says false b e = (e, cc)
 
 pub says-and : (a b : Bool) → a ≡ true → b ≡ true → a && b ≡ true
 says-and a b e f = rw e f

@@ -15,12 +15,12 @@ use Rattle.domain.specs.declared.Outcome.{Outcome}
 use Rattle.domain.specs.declared.Outcome.the-variants as outcome
 use Rattle.domain.specs.declared.Told.the-variants as told
 use Rattle.saved.specs.Upto.{upto}
-use Rattle.saved.proofs.UptoLaws.{all, each, agree}
+use Rattle.saved.proofs.UptoLaws.{and-says, all, each, agree}
 use Rattle.board.specs.Rows.{idAt, domainAt, seat, nowhere}
 use Rattle.board.specs.Well.{wellBoard}
 use Rattle.board.specs.View.{view}
 use Rattle.board.specs.declared.Board.{Board}
-use Rattle.board.proofs.WellLaws.{and-says, says-and}
+use Rattle.board.proofs.WellLaws.{says-and}
 use Rattle.board_list.specs.Places.{Placed, answerOf, placed, placesOf}
 use Rattle.board_list.proofs.Theorems.{seats-view, listed-few, seats-at, listed-seat}
 use Rattle.board_ask.specs.Domains.{domainOf}

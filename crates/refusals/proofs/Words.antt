@@ -9,7 +9,7 @@ use Rattle.rules.specs.Board as rules
 use Rattle.rules.specs.declared.Refusal.{Refusal}
 use Rattle.board.specs.Well.{wellBoard}
 use Rattle.board.specs.declared.Board.{Board}
-use Rattle.board.proofs.WellLaws.{and-says}
+use Rattle.saved.proofs.UptoLaws.{and-says}
 use Rattle.state.specs.Layout.{size, fitsOf, readOf, writtenOf}
 use Rattle.state.specs.Typed.{Words}
 use Rattle.state.proofs.Theorems.{written-back}

@@ -7,9 +7,9 @@ use native.Mathlib.Nat.{eq-or-lt-of-le, le-of-suc-le-suc, not-suc-le-zero}
 use native.Mathlib.Omega.{arith}
 use Rattle.saved.specs.Upto.{upto}
 
-and-true : (a b : Bool) → a && b ≡ true → (a ≡ true) × (b ≡ true)
-and-true true b e = (refl, e)
-and-true false b e = (e, cc)
+pub and-says : (a b : Bool) → a && b ≡ true → (a ≡ true) × (b ≡ true)
+and-says true b e = (refl, e)
+and-says false b e = (e, cc)
 
 pub all : (f : ℕ → Bool) (n : ℕ) → ((k : ℕ) → k < n → f k ≡ true) → upto f n ≡ true
 all f zero h = refl
@@ -18,7 +18,7 @@ all f (suc n) h = rw (h n (omega arith)) (all f n (λ k l. h k (omega arith)))
 pub each : (f : ℕ → Bool) (n : ℕ) → upto f n ≡ true → (k : ℕ) → k < n → f k ≡ true
 each f zero h k l = absurd (not-suc-le-zero l)
 each f (suc n) h k l =
-    let w = and-true (f n) (upto f n) h in
+    let w = and-says (f n) (upto f n) h in
     ⊎-elim (λ (e : k ≡ n). ap f e ∙ w .0) (λ m. each f n (w .1) k m) (eq-or-lt-of-le (le-of-suc-le-suc l))
 
 and-false : (b : Bool) → b && false ≡ false

@@ -10,7 +10,7 @@ use lib.Dec.{ltb}
 use lib.ListN.{getD}
 use borrow.Author.Tests.{ltb-true}
 use Rattle.board.proofs.Seats.{rise-differ}
-use Rattle.board.proofs.WellLaws.{and-says}
+use Rattle.saved.proofs.UptoLaws.{and-says}
 use borrow.Author.Needs.{needs}
 use Rattle.board.proofs.rise.Statement.{statement}
 use Rattle.board.proofs.rise.Tie as tie
