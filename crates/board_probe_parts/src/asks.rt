@@ -1,8 +1,8 @@
 // The calls that leave a board as it is, by their numbers in a script.
 ghost use Prim.Native.Nat.{_<_};
+use super::ids as parts;
 use super::raw;
 use super::reply as answers;
-use super::run as parts;
 use board::Board;
 use board_ask::IdCursor;
 use domain::Told;
