@@ -56,10 +56,10 @@ module _ (rs : rules.Rows) where
   proper-once (i ∷ is) t (suc p) (suc q) l m e =
       proper-once is (and-right (not (rules.among i is)) (proper rs is) (and-right (rules.known rs i) (not (rules.among i is) && proper rs is) t)) p q (le-of-suc-le-suc l) (le-of-suc-le-suc m) e
 
-map-at : (f : ℕ → ℕ) (is : List ℕ) (p : ℕ) → p < length is → getD (map f is) p 0 ≡ f (getD is p 0)
-map-at f [] p l = absurd (not-suc-le-zero l)
-map-at f (i ∷ is) zero l = refl
-map-at f (i ∷ is) (suc p) l = map-at f is p (le-of-suc-le-suc l)
+pub map-at : {A B : Type 0} (f : A → B) (l : List A) (p : ℕ) (a : A) (b : B) → p < length l → getD (map f l) p b ≡ f (getD l p a)
+map-at f [] p a b h = absurd (not-suc-le-zero h)
+map-at f (x ∷ l) zero a b h = refl
+map-at f (x ∷ l) (suc p) a b h = map-at f l p a b (le-of-suc-le-suc h)
 
 -- ---- on a board
 
@@ -92,7 +92,7 @@ module _ (b : Board) (is at : List ℕ) where
         ∙ ap (λ (l : List ℕ). getD (sets at 0 (map (seat b) l)) p 0) (take-length is)
         ∙ ap (λ (l : List ℕ). getD l p 0) (sets-eq vs at 0 (omega arith))
         ∙ List·getD-append vs (drop (0 + length vs) at) 0 p (omega arith)
-        ∙ map-at (seat b) is p l
+        ∙ map-at (seat b) is p 0 0 l
 
     module _ (w : wellBoard b ≡ true) where
       -- they are registered

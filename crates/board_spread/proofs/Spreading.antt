@@ -3,7 +3,6 @@ use mathlib.Core.Path.{_≡_, refl, sym, ap, _∙_, subst}
 use mathlib.Core.Bool.{Bool, true, false, _||_}
 use mathlib.Core.List.{List, [], _∷_, map}
 use Prim.Native.Nat.{ℕ, zero, suc, _<_, _≤_}
-use native.Mathlib.Nat.{le-of-suc-le-suc, not-suc-le-zero}
 use native.Mathlib.Omega.{arith}
 use lib.IntN.{ℤ}
 use lib.ListN.{length, getD, length-map}
@@ -31,18 +30,13 @@ use Rattle.board.proofs.ViewLaws.{sound, domain-well}
 use Rattle.board.proofs.WellLaws.{says-well}
 use Rattle.board.proofs.LookLaws.{looked-broken, looked-well}
 use Rattle.board_list.specs.Places.{answerOf, placed, placesOf}
-use Rattle.board_list.proofs.Theorems.{verdict-view, seats-view, seats-at, listed-few, listed-seat, listed-below}
+use Rattle.board_list.proofs.Theorems.{map-at, verdict-view, seats-view, seats-at, listed-few, listed-seat, listed-below}
 use Rattle.board_spread.specs.Gather.{Gathered, holdFrom}
 use Rattle.board_spread.specs.Spread.{holdAll, prunedAt, prunedBy, prunedOf, soundRows, handed, refused, spreadOf}
 use Rattle.board_spread.specs.declared.Pair.{Pair}
 use Rattle.board_spread.specs.declared.Pruned.{Pruned}
 use Rattle.board_spread.specs.declared.Pair.the-variants as pair
 use Rattle.board_spread.proofs.Holds.{hold-all}
-
-map-at : {A B : Type 0} (f : A → B) (l : List A) (j : ℕ) (a : A) (b : B) → j < length l → getD (map f l) j b ≡ f (getD l j a)
-map-at f [] j a b h = absurd (not-suc-le-zero h)
-map-at f (x ∷ l) zero a b h = refl
-map-at f (x ∷ l) (suc j) a b h = map-at f l j a b (le-of-suc-le-suc h)
 
 -- ---- the definition, case by case
 

@@ -12,7 +12,7 @@ use mir.Val.{SFits}
 use Rattle.sparse_inner.proofs.Checks.{value-fits}
 use Rattle.sparse_inner.specs.Set.{Full, WellF, valueAt, setOf}
 
-getD-map : {A B : Type 0} (g : A → B) (l : List A) (k : ℕ) (d : A) (e : B) → k < length l → getD (map g l) k e ≡ g (getD l k d)
+pub getD-map : {A B : Type 0} (g : A → B) (l : List A) (k : ℕ) (d : A) (e : B) → k < length l → getD (map g l) k e ≡ g (getD l k d)
 getD-map g [] k d e h = absurd (omega arith)
 getD-map g (x ∷ l) zero d e h = refl
 getD-map g (x ∷ l) (suc k) d e h = getD-map g l k d e (omega arith)

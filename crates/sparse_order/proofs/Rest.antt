@@ -24,6 +24,7 @@ use Rattle.sparse_inner.specs.Change.{holdsAt, resized, dropped, dropAt, dropWh
 use Rattle.sparse_inner.proofs.Drops.{drop-held, drop-none, drop-at-well}
 use Rattle.sparse_inner.proofs.Runs.{hold-of, drop-holds, where-well, where-frame}
 use Rattle.sparse_inner.proofs.Adds.{add-at-well, not-held}
+use Rattle.sparse_inner.proofs.Values.{getD-map}
 use Rattle.sparse_pairs.proofs.Each.{keep-append}
 use Rattle.sparse_pairs.specs.Calls.{dropEach, addEach}
 use Rattle.sparse_laws.proofs.Held.{members}
@@ -202,11 +203,6 @@ module _ (f : Full) (cut : ℕ) (W : WellF f) (c : cut ≤ f .set .n) (x : ℕ) 
       ∙ where-rest (λ o. true) f cut (f .set .n - cut) W (omega arith)
 
 -- ---- one value added
-getD-map : (g : ℕ → ℤ) (l : List ℕ) (k : ℕ) → k < length l → getD (map g l) k (pos 0) ≡ g (getD l k 0)
-getD-map g [] k h = absurd (omega arith)
-getD-map g (x ∷ l) zero h = refl
-getD-map g (x ∷ l) (suc k) h = getD-map g l k (omega arith)
-
 module _ (f : Full) (W : WellF f) (v : ℤ) (u : placeIn (f .set) v < f .set .n) (x : f .set .size ≤ getD (f .ind) (placeIn (f .set) v) 0) where
   abbrev m : ℕ
   m = f .set .size
@@ -257,7 +253,7 @@ module _ (f : Full) (W : WellF f) (v : ℤ) (u : placeIn (f .set) v < f .set .n)
           let i = k - suc m in
           let e : k ≡ suc m + i = omega arith in
           let long : length (drop (suc m) l) ≡ f .set .n - suc m = length-drop (suc m) l ∙ ap (λ (z : ℕ). z - suc m) l-long in
-          let at : (j : ℕ) → j < f .set .n - suc m → getD r j (pos 0) ≡ g (getD l (suc m + j) 0) = λ j b. getD-map g (drop (suc m) l) j (omega (arith, long)) ∙ ap g (getD-drop (suc m) l j 0) in
+          let at : (j : ℕ) → j < f .set .n - suc m → getD r j (pos 0) ≡ g (getD l (suc m + j) 0) = λ j b. getD-map g (drop (suc m) l) j 0 (pos 0) (omega (arith, long)) ∙ ap g (getD-drop (suc m) l j 0) in
           rw (is-false (same v (g (getD l m 0))) (λ t. omega (arith, alone-there m (omega (arith, k-lt)) (sym (same→eq v (g (getD l m 0)) t)))))
           (ap (λ (z : ℕ). map g (drop (suc m) (set l z (getD l m 0)))) e
           ∙ ap (map g) (drop-set-add (suc m) l i (getD l m 0))
