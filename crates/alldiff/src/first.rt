@@ -11,7 +11,7 @@ use masks::Masks;
 use sweep::Outcome;
 
 // The members of the masks that have one only, and whether no two of these have the same.
-#[derive(Drop)]
+#[derive(Clone, Copy)]
 pub struct Found {
     pub values: Mask,
     pub apart: bool,

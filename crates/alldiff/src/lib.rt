@@ -2,6 +2,8 @@
 // universe, and its mask.
 //
 // spread; first::fixed, is_level, one_by_one: the parts of step 1
+#![tactic(auto)]
+
 ghost use Rattle.std.specs.Prelude.{◌≡◌, false, ℕ, ◌+◌, ◌^◌, ◌<◌, ◌≤◌, pos, ◌+ℤ◌, length, get_or, take};
 ghost use Rattle.std.specs.Int.Count.{ones};
 ghost use Rattle.std.specs.Int.{w32};
@@ -24,7 +26,7 @@ use sweep::Outcome;
 mod first;
 
 // What the pass answers, and whether it sets the board's `domains_changed`.
-#[derive(Drop)]
+#[derive(Clone, Copy)]
 pub struct Passed {
     pub changed: bool,
     pub consistent: bool,

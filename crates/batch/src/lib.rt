@@ -2,6 +2,8 @@
 // once; then each closing costs what an inner one costs.
 //
 // close_many; `inner` has the same work on rows, for callers that know the board to be well formed
+#![tactic(auto)]
+
 ghost use Rattle.std.specs.Prelude.{◌≡◌, take};
 ghost use Rattle.batch.specs.Batch.{batch_of};
 
@@ -13,14 +15,14 @@ use rules::{Refusal, Variable};
 pub mod inner;
 
 // A board handed back, and how many closings answered yes.
-#[derive(Drop)]
+#[derive(Clone, Copy)]
 pub struct Batched {
     pub board: Board,
     pub answer: Counted,
 }
 
 // Rows after some closings, and how many of those took a chute.
-#[derive(Drop)]
+#[derive(Clone, Copy)]
 pub struct Tally {
     pub rows: [Row; 64],
     pub yes: usize,

@@ -2,6 +2,8 @@
 // one on to `further`, which does all the work, by value.
 //
 // close_all; close_run lends a run held by value
+#![tactic(auto)]
+
 ghost use Rattle.std.specs.Prelude.{◌≡◌, [], ◌≤◌, take};
 ghost use Rattle.batch.specs.Batch.{batch_of};
 ghost use Rattle.batch_lent.specs.Further.{Going, blank_run, further_of};

@@ -2,6 +2,8 @@
 // ids and values.
 //
 // judge, gather
+#![tactic(auto)]
+
 ghost use Rattle.std.specs.Prelude.{◌≡◌, ◌≤◌, length, take};
 ghost use Rattle.batch_runs.specs.Runs.{form_of, closing_at, closings_of};
 
@@ -9,7 +11,7 @@ use closing::Closing;
 use rules::{Value, Variable};
 
 // What three runs are: a batch, or why not one.
-#[derive(Drop)]
+#[derive(Clone, Copy)]
 pub enum Form {
     Batch,
     Uneven,

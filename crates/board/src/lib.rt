@@ -3,6 +3,8 @@
 // and where a destination stands.
 //
 // look
+#![tactic(auto)]
+
 ghost use Rattle.std.specs.Prelude.{◌≡◌, true, ◌≤◌, ◌<◌, get_or};
 ghost use Rattle.board.specs.Well.{new_to, differ, well_row, look_of};
 
@@ -11,14 +13,14 @@ use rules::Variable;
 use saved::Saved;
 
 // A destination and the chutes that it may still use.
-#[derive(Drop)]
+#[derive(Clone, Copy)]
 pub struct Row {
     pub id: Variable,
     pub domain: BitDomain,
 }
 
 // The first `count` rows are registered, in order of first registration; the first `marks` marks are open.
-#[derive(Drop)]
+#[derive(Clone, Copy)]
 pub struct Board {
     pub rows: [Row; 64],
     pub count: usize,
@@ -28,14 +30,14 @@ pub struct Board {
 }
 
 // A board handed back, and yes or no.
-#[derive(Drop)]
+#[derive(Clone, Copy)]
 pub struct Closed {
     pub board: Board,
     pub answer: Told,
 }
 
 // A board handed back by a call that has nothing else to tell.
-#[derive(Drop)]
+#[derive(Clone, Copy)]
 pub struct Settled {
     pub board: Board,
     pub answer: Outcome,

@@ -12,7 +12,7 @@ use rules::{Refusal, Variable};
 use saved::Saved;
 
 // The domain that a question is about.
-#[derive(Drop)]
+#[derive(Clone, Copy)]
 enum Sought {
     Domain(BitDomain),
     Broken,

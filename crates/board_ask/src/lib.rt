@@ -6,6 +6,8 @@
 //
 // A call checks the board once, and refuses one that isn't well formed by number, before anything else. A refused call
 // writes no cell.
+#![tactic(auto)]
+
 use rules::{Refusal, Value, Variable};
 
 pub mod ask;
@@ -20,27 +22,27 @@ pub use ids::{next_variable, variables, variables_into};
 pub use list::ready;
 
 // The smallest and the largest chute.
-#[derive(Drop)]
+#[derive(Clone, Copy)]
 pub enum Bounds {
     Between(Value, Value),
     Refused(Refusal),
 }
 
 // Where a walk over a board's ids stands: a place among its rows. It has ended at or past their count.
-#[derive(Drop)]
+#[derive(Clone, Copy)]
 pub struct IdCursor {
     pub at: usize,
 }
 
 // What a call that begins a walk answers.
-#[derive(Drop)]
+#[derive(Clone, Copy)]
 pub enum Walk {
     Cursor(IdCursor),
     Refused(Refusal),
 }
 
 // The next id, or that there is none.
-#[derive(Drop)]
+#[derive(Clone, Copy)]
 pub enum Named {
     Next(Variable),
     End,
@@ -48,7 +50,7 @@ pub enum Named {
 }
 
 // A cursor handed back, and what it yielded.
-#[derive(Drop)]
+#[derive(Clone, Copy)]
 pub struct Walked {
     pub cursor: IdCursor,
     pub answer: Named,

@@ -4,6 +4,8 @@
 // sum of the answers, so that no turn can be left out.
 //
 // It is a crate of its own so that each call has one caller here, as in a program that works with a board in one place.
+#![tactic(auto)]
+
 ghost use Rattle.std.specs.Prelude.{◌≤◌};
 
 use board::Board;

@@ -5,6 +5,8 @@
 //
 // A call checks the board once, and hands back one that isn't well formed as it came, refused by number. A closing answers
 // whether the domain lost a chute, and sets the flag if it did; of an id that isn't registered it answers no.
+#![tactic(auto)]
+
 ghost use Rattle.std.specs.Prelude.{◌≡◌};
 ghost use Rattle.rules.specs.Board.{remove, assign, below, above};
 ghost use Rattle.closing.specs.Kinds.{kind_of};
@@ -18,7 +20,7 @@ use rules::{Refusal, Value, Variable};
 pub mod inner;
 
 // A row after a closing, and whether that took a chute.
-#[derive(Drop)]
+#[derive(Clone, Copy)]
 pub struct Shut {
     pub row: Row,
     pub yes: bool,

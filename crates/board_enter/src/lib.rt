@@ -4,6 +4,8 @@
 //
 // Registering a known id replaces its domain; a new id stands last. A call checks the board once, and hands back one that
 // isn't well formed as it came; it refuses while a mark is open, and then a new id on a full board.
+#![tactic(auto)]
+
 ghost use Rattle.std.specs.Prelude.{◌≡◌, true, ◌≤◌};
 ghost use Rattle.domain.specs.Set.{well};
 ghost use Rattle.domain.specs.Calls.{new_of};

@@ -4,6 +4,8 @@
 // remove_value, assign_variable, remove_below, remove_above; each is thin over the call of `board_close` by its name.
 // remove_value_here, assign_variable_here, ..: the same by value, each lending a local to the call above it: only a proof by hand can hold a reference
 // to a struct, so other proved code reaches the calls above through these
+#![tactic(auto)]
+
 ghost use Rattle.std.specs.Prelude.{◌≡◌};
 ghost use Rattle.rules.specs.Board.{remove, assign, below, above};
 ghost use Rattle.board_close.specs.Close.{close_of};

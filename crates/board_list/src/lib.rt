@@ -2,6 +2,8 @@
 // callers that know the board to be well formed.
 //
 // find, find_from: one id; seats: a list; ids_of: the ids to be lent
+#![tactic(auto)]
+
 ghost use Rattle.std.specs.Prelude.{◌≡◌, true, ◌≤◌, get_or};
 ghost use Rattle.board.specs.Rows.{id_at, seat_in};
 ghost use Rattle.board.specs.Well.{differ};

@@ -12,7 +12,7 @@ use probe_parts::{regs, reply};
 use rules::Value;
 
 // A board after a call, and what the call answered.
-#[derive(Drop)]
+#[derive(Clone, Copy)]
 pub struct Turn {
     pub board: Board,
     pub reply: Reply,

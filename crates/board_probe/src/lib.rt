@@ -3,6 +3,8 @@
 // probe_board: runs a script of calls, bytes in, answers and what shows the board as bytes out (differential/FORMAT.md says which)
 //
 // It has no `requires`: it is safe on whatever it is lent.
+#![tactic(auto)]
+
 pub mod calls;
 pub mod changes;
 pub mod run;

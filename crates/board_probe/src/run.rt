@@ -15,7 +15,7 @@ use probe_parts::{behind, record, regs, reply};
 const MOST: usize = 10328;
 
 // A board after a record, what the record answered, what shows the board, and the cells behind the answer.
-#[derive(Drop)]
+#[derive(Clone, Copy)]
 struct Done {
     board: Board,
     reply: Reply,

@@ -23,7 +23,7 @@ pub fn put(ids: &mut [u32; 224], r: Record) {
 }
 
 // Where the list begins that a record names, and where it ends.
-#[derive(Drop)]
+#[derive(Clone, Copy)]
 pub struct Span {
     pub start: usize,
     pub end: usize,

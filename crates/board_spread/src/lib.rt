@@ -5,6 +5,8 @@
 // A call checks the board once, and then the list; a board that isn't well formed and one whose list is refused come back as
 // they came. The pass goes over the listed domains alone. `inner` has the same work on the rows, without the board's check,
 // for callers that have made it.
+#![tactic(auto)]
+
 ghost use Rattle.std.specs.Prelude.{◌≡◌};
 ghost use Rattle.board_spread.specs.Spread.{spread_of};
 
@@ -14,21 +16,21 @@ use rules::{Refusal, Variable};
 pub mod inner;
 
 // 01's pair, (changed, consistent), or why the call was refused. After a stop in step 2 `changed` tells of step 1 only.
-#[derive(Drop)]
+#[derive(Clone, Copy)]
 pub enum Pair {
     Is(bool, bool),
     Refused(Refusal),
 }
 
 // A board handed back, and the pair.
-#[derive(Drop)]
+#[derive(Clone, Copy)]
 pub struct Spread {
     pub board: Board,
     pub answer: Pair,
 }
 
 // Rows as a list leaves them, whether it raises the board's flag, and the pair.
-#[derive(Drop)]
+#[derive(Clone, Copy)]
 pub struct Pruned {
     pub rows: [Row; 64],
     pub raised: bool,

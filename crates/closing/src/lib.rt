@@ -1,13 +1,15 @@
 // A closing as a record: its kind, the destination, and the chute or threshold. Boards close by it, batches are runs of it, and sheets list it.
 //
 // kind_for
+#![tactic(auto)]
+
 ghost use Rattle.std.specs.Prelude.{◌≡◌};
 ghost use Rattle.closing.specs.Kinds.{kind_for};
 
 use rules::{Value, Variable};
 
 // 01's four kinds of closing.
-#[derive(Drop)]
+#[derive(Clone, Copy)]
 pub enum Kind {
     Remove,
     Assign,
@@ -15,7 +17,7 @@ pub enum Kind {
     Above,
 }
 
-#[derive(Drop)]
+#[derive(Clone, Copy)]
 pub struct Closing {
     pub kind: Kind,
     pub id: Variable,

@@ -3,6 +3,8 @@
 // size, put: of a signed number, with its minus. size_natural, put_natural: of a number that has none.
 //
 // The bytes must have room: a caller asks for the size first.
+#![tactic(auto)]
+
 ghost use Rattle.std.specs.Prelude.{◌≡◌, ◌+◌, ◌≤◌, nat_abs, length};
 ghost use Rattle.decimal.specs.Decimal.{natural, decimal};
 ghost use Rattle.decimal.specs.Put.{put_of};

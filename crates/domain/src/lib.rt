@@ -8,6 +8,8 @@
 // A domain goes in by value; a call that may change it hands it back beside the answer. Every call but those that make a
 // domain tests first that it is well formed, and refuses it by number otherwise, as it came. `inner` holds the same work
 // without that test, for callers that have made it.
+#![tactic(auto)]
+
 use mask::Mask;
 use rules::{Refusal, Value};
 
@@ -23,7 +25,7 @@ pub use ask::{
 pub use change::{insert, remove, remove_above, remove_all, remove_all_but, remove_below};
 pub use make::{new, new_empty, new_invalid, try_new, try_new_empty};
 
-#[derive(Drop)]
+#[derive(Clone, Copy)]
 pub struct BitDomain {
     pub mask: Mask,
     pub min: i32,
@@ -31,49 +33,49 @@ pub struct BitDomain {
 }
 
 // What a call that makes a domain answers.
-#[derive(Drop)]
+#[derive(Clone, Copy)]
 pub enum Made {
     Domain(BitDomain),
     Refused(Refusal),
 }
 
 // Yes or no.
-#[derive(Drop)]
+#[derive(Clone, Copy)]
 pub enum Told {
     Is(bool),
     Refused(Refusal),
 }
 
 // How many.
-#[derive(Drop)]
+#[derive(Clone, Copy)]
 pub enum Counted {
     Count(usize),
     Refused(Refusal),
 }
 
 // Which chute.
-#[derive(Drop)]
+#[derive(Clone, Copy)]
 pub enum Found {
     At(Value),
     Refused(Refusal),
 }
 
 // That it is done.
-#[derive(Drop)]
+#[derive(Clone, Copy)]
 pub enum Outcome {
     Done,
     Refused(Refusal),
 }
 
 // A domain handed back, and whether it changed.
-#[derive(Drop)]
+#[derive(Clone, Copy)]
 pub struct Changed {
     pub domain: BitDomain,
     pub answer: Told,
 }
 
 // A domain handed back by a call that has nothing else to tell.
-#[derive(Drop)]
+#[derive(Clone, Copy)]
 pub struct Narrowed {
     pub domain: BitDomain,
     pub answer: Outcome,

@@ -4,6 +4,8 @@
 // insert, remove, remove_all_but, remove_below, remove_above; each is thin over the call of `domain` by its name.
 // insert_here, remove_here, ..: the same by value, each lending a local to the call above it: only a proof by hand can hold a reference to a struct, so
 // other proved code reaches the calls above through these
+#![tactic(auto)]
+
 ghost use Rattle.std.specs.Prelude.{◌≡◌};
 ghost use Rattle.rules.specs.Board.{assign, below, above};
 ghost use Rattle.domain.specs.Calls.{insert_of, remove_of, close_of};

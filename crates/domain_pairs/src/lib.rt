@@ -5,6 +5,8 @@
 //
 // Every call tests first that each domain is well formed, and refuses it by number otherwise. A refused call hands the domain
 // back as it came.
+#![tactic(auto)]
+
 use mask::Mask;
 use rules::Refusal;
 
@@ -17,21 +19,21 @@ pub use states::{
 };
 
 // What a domain held when it was saved.
-#[derive(Drop)]
+#[derive(Clone, Copy)]
 pub struct BitState {
     pub mask: Mask,
     pub size: usize,
 }
 
 // Which offsets.
-#[derive(Drop)]
+#[derive(Clone, Copy)]
 pub enum Masked {
     Bits(Mask),
     Refused(Refusal),
 }
 
 // What a call that saves answers.
-#[derive(Drop)]
+#[derive(Clone, Copy)]
 pub enum Kept {
     State(BitState),
     Refused(Refusal),

@@ -4,6 +4,8 @@
 //
 // It counts how long the text is before it writes, so that a call that is refused writes nothing. No text is longer than
 // 1538 bytes.
+#![tactic(auto)]
+
 ghost use Rattle.std.specs.Prelude.{◌≡◌, ◌+◌, ◌-◌, ◌<◌, ◌≤◌, ℤ, length, take, drop};
 ghost use Rattle.decimal.specs.Put.{put_of};
 ghost use Rattle.domain.specs.Set.{values_of};
@@ -16,7 +18,7 @@ use rules::Refusal;
 pub mod inner;
 
 // The first run of values: how many it has, and what is left without them.
-#[derive(Drop)]
+#[derive(Clone, Copy)]
 struct Run {
     count: usize,
     rest: Mask,

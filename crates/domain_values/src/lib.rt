@@ -6,6 +6,8 @@
 //
 // A cursor goes in by value and is handed back beside what it yielded. A domain or a cursor that isn't well formed is refused
 // by number, before anything else; a refused call hands the cursor back as it came and writes no cell.
+#![tactic(auto)]
+
 use mask::Mask;
 use rules::{Refusal, Value};
 
@@ -18,21 +20,21 @@ pub use list::to_vec;
 pub use make::{new_from_values, try_new_from_values};
 
 // Where a walk over a domain's values stands: the offsets that are still to come.
-#[derive(Drop)]
+#[derive(Clone, Copy)]
 pub struct BitCursor {
     pub mask: Mask,
     pub min: i32,
 }
 
 // What a call that begins a walk answers.
-#[derive(Drop)]
+#[derive(Clone, Copy)]
 pub enum Begun {
     Cursor(BitCursor),
     Refused(Refusal),
 }
 
 // The next value, or that there is none.
-#[derive(Drop)]
+#[derive(Clone, Copy)]
 pub enum Yielded {
     Next(Value),
     End,
@@ -40,7 +42,7 @@ pub enum Yielded {
 }
 
 // A cursor handed back, and what it yielded.
-#[derive(Drop)]
+#[derive(Clone, Copy)]
 pub struct Stepped {
     pub cursor: BitCursor,
     pub answer: Yielded,

@@ -1,4 +1,6 @@
 // The smallest and the largest of some lent values, of which there is one at least.
+#![tactic(auto)]
+
 ghost use Rattle.std.specs.Prelude.{◌≡◌, cond, ◌<◌, length};
 ghost use Rattle.std.specs.Int.Signed.{lt_z};
 ghost use Rattle.ends.specs.Ends.{smallest_of, largest_of};

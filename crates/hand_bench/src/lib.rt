@@ -2,6 +2,8 @@
 // back, so that no turn can be left out.
 //
 // bench_many: the closings by value. bench_lent: the same closings lent.
+#![tactic(auto)]
+
 ghost use Rattle.std.specs.Prelude.{◌<◌};
 
 use board::Board;

@@ -2,6 +2,8 @@
 // ends with the input.
 //
 // The comparison with the Rust (differential/run) reaches the calls through it.
+#![tactic(auto)]
+
 ghost use Rattle.std.specs.Prelude.{◌≡◌, length};
 
 const FRAME: usize = 8192;

@@ -4,6 +4,8 @@
 // probe_hand: runs a frame, bytes in, answers and states as bytes out (differential/FORMAT.md says which)
 //
 // It has no `requires`: it is safe on whatever it is lent.
+#![tactic(auto)]
+
 ghost use Rattle.std.specs.Prelude.{◌≡◌, ◌+◌, ◌<◌, ◌≤◌, length};
 
 use batch::Batched;
@@ -53,7 +55,7 @@ fn counted(c: Counted) -> u64 {
 }
 
 // What a call left behind the reference, and its answer as a number.
-#[derive(Drop)]
+#[derive(Clone, Copy)]
 struct After {
     left: Register,
     answer: u64,

@@ -8,3 +8,4 @@
 // Here: `fn call_here(d: T, x: .., y: ..) -> R { let mut e = d; let a = call(&mut e, x, y); R { state: e, answer: a } }`, the same by value, for callers that
 // hold no reference
 // PlainData, Parameters, Contracts: what the two take of a type, of the further parameters, and of a contract
+#![tactic(auto)]

@@ -2,6 +2,8 @@
 // the number whose bits are the members, and of `offsets`, how many offsets there is room for.
 //
 // empty, only, first_n; and, or, minus; with, without, rest; is_none, is_one, has, within, same, fits, ends_by; count, lowest, highest
+#![tactic(auto)]
+
 ghost use Rattle.std.specs.Prelude.{◌≡◌, ℕ, ◌+◌, ◌-◌, ◌/◌, ◌^◌, ◌<◌, ◌≤◌, min, ◌&&◌, eqb, ltb, get_or, set};
 ghost use Rattle.std.specs.Int.Bits.{bit_and, bit_or};
 ghost use Rattle.std.specs.Int.Count.{ones};
@@ -14,7 +16,7 @@ ghost use Rattle.mask.specs.Ends.{ends_by};
 // How many offsets there is room for.
 pub const OFFSETS: usize = 128;
 
-#[derive(Drop)]
+#[derive(Clone, Copy)]
 pub struct Mask {
     pub lo: u64,
     pub hi: u64,

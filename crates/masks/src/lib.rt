@@ -1,6 +1,8 @@
 // 64 masks as one array of words, so that all of them can be lent at once. Only this crate and `mask` know the words.
 //
 // none, at, put
+#![tactic(auto)]
+
 ghost use Rattle.std.specs.Prelude.{◌≡◌, ◌<◌};
 ghost use Rattle.masks.specs.Cells.{Room, mask_at, put_at};
 

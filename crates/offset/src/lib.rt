@@ -2,6 +2,8 @@
 // so that none wraps, also from one end of i32 to the other.
 //
 // gap, span; is_within, from; place, below, upto; value
+#![tactic(auto)]
+
 ghost use Rattle.std.specs.Prelude.{◌≡◌, true, ltb, pos, ◌+ℤ◌, ◌-ℤ◌};
 ghost use Rattle.std.specs.Int.Signed.{le_z};
 ghost use Rattle.std.specs.Int.{w32};

@@ -2,6 +2,8 @@
 // order, and `ind` says where each stands. Cells past n are never written.
 //
 // fill, exchange, is_inverse
+#![tactic(auto)]
+
 ghost use Rattle.std.specs.Prelude.{◌≡◌, ◌<◌, ◌≤◌, length, get_or};
 ghost use Rattle.order.specs.Order.{swapped, inverse_b, counted};
 

@@ -12,6 +12,8 @@
 // Each is the by-value call of the same name between reading and writing the state; values and ids go out by the calls `.._into`, and
 // pirozhkan_batch is `batch::close_many`. None has a `requires`: whatever the words are, a call answers, and leaves words that are too few
 // or that aren't a well-formed board's as they came.
+#![tactic(auto)]
+
 pub mod batches;
 pub mod inner;
 pub mod lists;

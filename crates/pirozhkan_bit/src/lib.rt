@@ -8,6 +8,8 @@
 //
 // Each is the by-value call of the same name between reading and writing the words; values is `to_vec`, and text `write_text`. None has a
 // `requires`.
+#![tactic(auto)]
+
 pub mod ask;
 pub mod change;
 pub mod inner;

@@ -1,4 +1,6 @@
 // The library's call on a whole wave sheet: pirozhkan_wave. No state is lent.
+#![tactic(auto)]
+
 ghost use Rattle.std.specs.Prelude.{◌≡◌, List, ℕ};
 ghost use Rattle.wave.specs.Text.{wave_of};
 ghost use Rattle.reply.specs.Through.{left};

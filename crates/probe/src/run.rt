@@ -70,7 +70,7 @@ fn run(r: Record, regs: &mut [u64; 256]) -> Turn
 }
 
 // What a record answered, the register that its answer shows, and the cells behind the answer.
-#[derive(Drop)]
+#[derive(Clone, Copy)]
 struct Done {
     reply: Reply,
     left: Register,

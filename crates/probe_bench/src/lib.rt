@@ -2,6 +2,8 @@
 // what comes out is a sum of the answers, so that no turn can be left out.
 //
 // It is a crate of its own so that each call has one caller here, as in a program that works with domains in one place.
+#![tactic(auto)]
+
 ghost use Rattle.std.specs.Prelude.{◌<◌, ◌≤◌, length};
 
 use domain::{BitDomain, Counted, Found, Outcome, Told};

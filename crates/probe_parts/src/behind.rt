@@ -3,7 +3,7 @@ ghost use Rattle.std.specs.Prelude.{◌≡◌, ◌+◌, ◌*◌, ◌≤◌, leng
 
 use super::wire;
 
-#[derive(Drop)]
+#[derive(Clone, Copy)]
 pub struct Behind {
     pub bytes: [u8; 2048],
     pub many: usize,

@@ -14,7 +14,7 @@ pub fn least(a: usize, b: usize) -> usize
 }
 
 // What a call that was lent cells answered, and what stands behind that.
-#[derive(Drop)]
+#[derive(Clone, Copy)]
 pub struct Shown {
     pub answer: Counted,
     pub behind: Behind,

@@ -5,7 +5,7 @@ use super::wire;
 
 pub const SIZE: usize = 32;
 
-#[derive(Drop)]
+#[derive(Clone, Copy)]
 pub struct Record {
     pub op: u64,
     pub a: usize,

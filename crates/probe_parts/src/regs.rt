@@ -18,7 +18,7 @@ const VALUES: usize = 72;
 pub const LISTED: usize = 160;
 
 // What a register holds: a mask, and bounds or another number.
-#[derive(Drop)]
+#[derive(Clone, Copy)]
 pub struct Register {
     pub lo: u64,
     pub hi: u64,

@@ -12,7 +12,7 @@ use rules::{Refusal, Value};
 pub const SIZE: usize = 64;
 
 // What kind of answer it is with the refusal's number above it, a count, a value, and a mask.
-#[derive(Drop)]
+#[derive(Clone, Copy)]
 pub struct Reply {
     pub kind: u64,
     pub count: u64,

@@ -4,7 +4,7 @@ use super::reply::Reply;
 use super::{regs, reply};
 use domain_values::{Begun, Stepped};
 
-#[derive(Drop)]
+#[derive(Clone, Copy)]
 pub struct Turn {
     pub left: Register,
     pub reply: Reply,

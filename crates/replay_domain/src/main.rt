@@ -3,6 +3,8 @@
 //
 // In the gate its `stdin` is a recorded sample and its `stdout` the Rust's answers to it (README.md), and what it writes is held to those. The
 // comparison with the Rust (differential/run) reaches the calls through it too.
+#![tactic(auto)]
+
 ghost use Rattle.std.specs.Prelude.{◌≡◌, length};
 
 const FRAME: usize = 8192;

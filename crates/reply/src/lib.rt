@@ -2,6 +2,8 @@
 // board's. The code is in specs/Told, and what a call does with the words it is lent in specs/Through.
 //
 // refusal, said, count, chute; told, outcome, counted, found, pair: of the by-value calls' answers; judge
+#![tactic(auto)]
+
 ghost use Rattle.std.specs.Prelude.{◌≡◌};
 ghost use Rattle.rules.specs.Board as rules;
 ghost use Rattle.board.specs.Obeys.{told_of, outcome_of};

@@ -2,19 +2,21 @@
 // The rules of 01 are in specs/, in plain finite sets: Sets; Pass with Table; Board (calls, answers, refusals); Refusals (their numbers and places);
 // Trial (what a trial keeps); Cases and Sample are worked out. What follows from them is in proofs/: Sound (the pass), CallLaws and WellFormed (every call), Trials (demand 3);
 // Tests, SetLaws, InOrder, RowLaws and Loops serve those who build on it.
+#![tactic(auto)]
+
 ghost use Rattle.std.specs.Prelude.{◌≡◌};
 ghost use Rattle.rules.specs.Refusals.{number_of, place_of};
 
 // A destination. No chute can stand in its place: the compiler keeps the two apart.
-#[derive(Drop)]
+#[derive(Clone, Copy)]
 pub struct Variable(pub u32);
 
 // A chute.
-#[derive(Drop)]
+#[derive(Clone, Copy)]
 pub struct Value(pub i32);
 
 // Why a call was refused: a variant for each row of 01's table, in its order. A place counts from 0, in a list of ids or in a sheet's bytes.
-#[derive(Drop)]
+#[derive(Clone, Copy)]
 pub enum Refusal {
     Broken,
     Full,

@@ -2,6 +2,8 @@
 // words a mask has: each contract speaks of `saved_at`, the mask that a mark saved for a row.
 //
 // at, put, join
+#![tactic(auto)]
+
 ghost use Rattle.std.specs.Prelude.{◌≡◌, ◌&&◌, ℕ, ◌^◌, ◌≤◌, ◌<◌, ltb};
 ghost use Rattle.mask.specs.Val.{val};
 ghost use Rattle.saved.specs.Saved.{saved_at, put_at, fit_under};

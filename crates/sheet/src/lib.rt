@@ -4,6 +4,8 @@
 //
 // specs/Sheet is 01's sheet as what is read, specs/Write its text. A text is accepted exactly when it is the text of a good sheet: the crate
 // `sheet_laws`.
+#![tactic(auto)]
+
 ghost use Rattle.std.specs.Prelude.{◌≡◌};
 ghost use Rattle.sheet_number.specs.Number.{fault};
 ghost use Rattle.sheet.specs.Sheet.{read_sheet, refusal_of};
@@ -29,7 +31,7 @@ pub fn refusal(k: Fault, place: usize) -> Refusal
 }
 
 // The rows of a sheet and its length, or what is wrong with the text and no rows.
-#[derive(Drop)]
+#[derive(Clone, Copy)]
 pub struct Read {
     pub parsed: Parsed,
     pub end: Step,

@@ -1,4 +1,6 @@
 // The reading of a sheet, exported for the comparison's `speed`. What comes out is made of rows that the caller picks, so that none can be left out.
+#![tactic(auto)]
+
 use closing::Kind;
 use sheet_number::Step;
 

@@ -3,3 +3,4 @@
 // Back and Canonical: the same two of one number. Places: a fault lies within the text, and is told as 15. FaultFirst: its place is the one that
 // specs/First tells in words of texts alone, without a reader; Tokens and Stops lead there. Examples: 01's sheet, and a text for each way to be
 // at fault.
+#![tactic(auto)]

@@ -3,6 +3,8 @@
 // read_number: any number in a range. natural_field, value_field: a u32 or an i32, and the byte that must follow. read_natural, read_byte: one
 // without the other. Each is equal to a reader of specs/; Number says what a run of digits and minus signs writes, Reader how readers compose.
 // Each byte of a number is looked at once: a run that is ill-written is at fault where it starts, so where it ends is of no use.
+#![tactic(auto)]
+
 ghost use Rattle.std.specs.Prelude.{◌≡◌, true, ℕ, ◌+◌, ◌-◌, ◌*◌, ◌^◌, ◌<◌, min, length, drop};
 ghost use Rattle.std.proofs.Math.Option.{some};
 ghost use Rattle.sheet_number.specs.Number.{is_digit, in_run, is_lead, run, run_end, digits, positive, alone, written as written·of, minus, number_at, byte_at};
@@ -10,7 +12,7 @@ ghost use Rattle.sheet_number.specs.Told.{cap, capped, sign_of, skip_of, within,
 ghost use Rattle.sheet_number.specs.Reader.{natural as natural·of, value, field};
 
 // What is wrong with a sheet.
-#[derive(Drop)]
+#[derive(Clone, Copy)]
 pub enum Fault {
     IllWritten,
     OutOfRange,
@@ -21,39 +23,39 @@ pub enum Fault {
 }
 
 // A number and the place after it, or what is wrong and where; the other answers go likewise.
-#[derive(Drop)]
+#[derive(Clone, Copy)]
 pub enum Number {
     Is(i64, usize),
     Bad(Fault, usize),
 }
 
-#[derive(Drop)]
+#[derive(Clone, Copy)]
 pub enum Natural {
     Is(u32, usize),
     Bad(Fault, usize),
 }
 
-#[derive(Drop)]
+#[derive(Clone, Copy)]
 pub enum Signed {
     Is(i32, usize),
     Bad(Fault, usize),
 }
 
-#[derive(Drop)]
+#[derive(Clone, Copy)]
 pub enum Step {
     At(usize),
     Bad(Fault, usize),
 }
 
 // What a run without a minus writes, up to a cap, and where it ends.
-#[derive(Drop)]
+#[derive(Clone, Copy)]
 enum Digits {
     Not,
     Are(u64, usize),
 }
 
 // What a whole run writes: nothing, a number that no i64 holds, or a number; and where it ends.
-#[derive(Drop)]
+#[derive(Clone, Copy)]
 enum Written {
     Ill,
     Huge,

@@ -2,6 +2,8 @@
 //
 // read_destinations, read_closings, read_lists: the rows, and the place after the section; or what is wrong and where, and no rows. Each is
 // equal to a reader of specs/Sections, held in arrays as specs/Rows says.
+#![tactic(auto)]
+
 ghost use Rattle.std.specs.Prelude.{◌≡◌, ◌+◌, ◌≤◌};
 ghost use Rattle.sheet_number.specs.Number.{fault};
 ghost use Rattle.sheet_number.specs.Reader.{times};
@@ -16,7 +18,7 @@ use sheet_number::{Fault, Natural, Signed, Step};
 
 // ---- destinations
 
-#[derive(Drop)]
+#[derive(Clone, Copy)]
 enum DestinationLine {
     Is(Destination, usize),
     Bad(Fault, usize),
@@ -45,7 +47,7 @@ fn read_destination(s: &[u8], at: usize) -> DestinationLine
 }
 
 // The destinations that were read, and the place after them; none where there is a fault.
-#[derive(Drop)]
+#[derive(Clone, Copy)]
 pub struct Destinations {
     pub rows: [Destination; 64],
     pub count: usize,
@@ -107,7 +109,7 @@ pub fn read_destinations(s: &[u8], at: usize) -> Destinations
 
 // ---- closings
 
-#[derive(Drop)]
+#[derive(Clone, Copy)]
 enum ClosingLine {
     Is(Closing, usize),
     Bad(Fault, usize),
@@ -139,7 +141,7 @@ fn read_closing(s: &[u8], at: usize) -> ClosingLine
 }
 
 // The closings that were read, and the place after them; none where there is a fault.
-#[derive(Drop)]
+#[derive(Clone, Copy)]
 pub struct Closings {
     pub rows: [Closing; 256],
     pub count: usize,
@@ -232,7 +234,7 @@ fn read_ids(s: &[u8], at: usize, count: usize, ids: &mut [u32; 1024], used: usiz
 }
 
 // The lists that were read, their ids in one run, and the place after them; none where there is a fault.
-#[derive(Drop)]
+#[derive(Clone, Copy)]
 pub struct Lists {
     pub rows: [Span; 16],
     pub count: usize,

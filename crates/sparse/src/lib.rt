@@ -6,6 +6,8 @@
 //
 // The state goes in by value and comes back beside the answer of a call that may change it. Every call tests first that the state and its
 // orderings are well formed, and refuses them by number otherwise, as they came. `sparse_inner` holds the same work without that test.
+#![tactic(auto)]
+
 use rules::{Refusal, Value};
 use sparse_inner::{Sparse, SparseState};
 
@@ -20,49 +22,49 @@ pub use ask::{
 pub use change::{remove, remove_above, remove_all, remove_all_but, remove_below, restore_state};
 
 // Yes or no.
-#[derive(Drop)]
+#[derive(Clone, Copy)]
 pub enum Told {
     Is(bool),
     Refused(Refusal),
 }
 
 // How many.
-#[derive(Drop)]
+#[derive(Clone, Copy)]
 pub enum Counted {
     Count(usize),
     Refused(Refusal),
 }
 
 // Which value.
-#[derive(Drop)]
+#[derive(Clone, Copy)]
 pub enum Found {
     At(Value),
     Refused(Refusal),
 }
 
 // That it is done.
-#[derive(Drop)]
+#[derive(Clone, Copy)]
 pub enum Outcome {
     Done,
     Refused(Refusal),
 }
 
 // What to restore later.
-#[derive(Drop)]
+#[derive(Clone, Copy)]
 pub enum Kept {
     State(SparseState),
     Refused(Refusal),
 }
 
 // A set handed back, and whether it changed.
-#[derive(Drop)]
+#[derive(Clone, Copy)]
 pub struct Changed {
     pub set: Sparse,
     pub answer: Told,
 }
 
 // A set handed back by a call that has nothing else to tell.
-#[derive(Drop)]
+#[derive(Clone, Copy)]
 pub struct Narrowed {
     pub set: Sparse,
     pub answer: Outcome,

@@ -3,6 +3,8 @@
 //
 // bench_sparse_contains, bench_sparse_remove: one test of the set, then a turn of the inner work for each value.
 // bench_sparse_call: one checked call, by the number that it has in scripts. bench_sparse_from_values: new_from_values.
+#![tactic(auto)]
+
 ghost use Rattle.sparse_inner.specs.Set.{Well};
 
 use rules::Value;

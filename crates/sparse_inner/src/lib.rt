@@ -2,6 +2,8 @@
 // known to be well formed. `check` is the test that makes it known; the calls that make it for their callers are in `sparse` and beside it.
 //
 // check, check_both; place, below, upto, value; holds, fits, state; drop_at, add_at, only_at, from_cut, under_cut
+#![tactic(auto)]
+
 ghost use Rattle.std.specs.Prelude.{◌≡◌, ℕ, ◌+◌, ◌-◌, ◌<◌, ◌≤◌, pos, ◌+ℤ◌, ◌-ℤ◌, length, get_or};
 ghost use Rattle.std.specs.Int.Signed.{le_z};
 ghost use Rattle.std.specs.Int.{w32};
@@ -15,7 +17,7 @@ ghost use Rattle.sparse_inner.specs.Scan.{Spans, Greatest, Least, low_with, high
 use rules::{Refusal, Value};
 
 // The universe is the n values from off on. The first `size` cells of `val` are held; min and max are their bounds, as offsets.
-#[derive(Drop)]
+#[derive(Clone, Copy)]
 pub struct Sparse {
     pub off: i32,
     pub n: u32,
@@ -25,7 +27,7 @@ pub struct Sparse {
 }
 
 // What `save_state` keeps of a set.
-#[derive(Drop)]
+#[derive(Clone, Copy)]
 pub struct SparseState {
     pub size: u32,
     pub min: u32,
@@ -33,7 +35,7 @@ pub struct SparseState {
 }
 
 // Whether a set and its orderings are well formed.
-#[derive(Drop)]
+#[derive(Clone, Copy)]
 pub enum Verdict {
     Fine,
     Refused(Refusal),

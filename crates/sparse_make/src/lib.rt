@@ -2,6 +2,8 @@
 //
 // None is given a set, so none refuses one: a universe that is too wide, or orderings that are too short for it, are all that they refuse, and
 // then they write no cell.
+#![tactic(auto)]
+
 ghost use Rattle.std.specs.Prelude.{◌≡◌, ◌^◌, ◌<◌, eqb};
 ghost use Rattle.std.specs.Int.Bits.{bit_or};
 ghost use Rattle.mask.specs.Bit.{bit};
@@ -12,7 +14,7 @@ use rules::{Refusal, Value};
 use sparse_inner::{Sparse, Verdict};
 
 // What a call that makes a set answers.
-#[derive(Drop)]
+#[derive(Clone, Copy)]
 pub enum Made {
     Set(Sparse),
     Refused(Refusal),

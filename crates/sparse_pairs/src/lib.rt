@@ -2,6 +2,8 @@
 //
 // The first set is the one that changes. A call is refused if either set isn't well formed, or if the scratch that it needs is smaller than the first
 // set, and then leaves all as it came.
+#![tactic(auto)]
+
 ghost use Rattle.std.specs.Prelude.{◌≡◌, ◌≤◌, length, take};
 ghost use Rattle.rules.specs.Sets.{every};
 ghost use Rattle.sparse_inner.specs.Set.{full, Well, set_of, is_held, over};

@@ -3,6 +3,8 @@
 // probe_sparse: runs a script of calls, bytes in, answers and states as bytes out (differential/FORMAT.md says which)
 //
 // It has no `requires`: it is safe on whatever it is lent.
+#![tactic(auto)]
+
 pub mod cells;
 pub mod run;
 

@@ -21,7 +21,7 @@ fn many(w: u64) -> usize
 }
 
 // A lent part: where it begins, and where it ends.
-#[derive(Drop)]
+#[derive(Clone, Copy)]
 struct Part {
     start: usize,
     end: usize,

@@ -10,7 +10,7 @@ use probe_parts::turn::Turn;
 use probe_parts::{behind, regs as words};
 
 // Set a and the other set, how many cells of each are lent, and the register that a call may be about besides.
-#[derive(Drop)]
+#[derive(Clone, Copy)]
 pub struct Given {
     pub a: usize,
     pub old: Register,
@@ -21,7 +21,7 @@ pub struct Given {
 }
 
 // What a record leaves of set a and answers, what it leaves of the register besides, and what stands behind the answer.
-#[derive(Drop)]
+#[derive(Clone, Copy)]
 pub struct Seen {
     pub turn: Turn,
     pub beside: Register,

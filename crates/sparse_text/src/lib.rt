@@ -1,6 +1,8 @@
 // The text of a sparse set, put into lent bytes: write_text.
 //
 // Every byte is counted before the first is written, so that a text without room leaves the bytes as they came.
+#![tactic(auto)]
+
 ghost use Rattle.std.specs.Prelude.{◌≡◌, ◌+◌, ◌≤◌, length};
 ghost use Rattle.std.specs.Int.{w32};
 ghost use Rattle.std.proofs.Common.{SFits};

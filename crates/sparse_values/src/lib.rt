@@ -5,6 +5,8 @@
 //
 // A cursor is a place in the set that is lent with it: it goes in by value and is handed back beside what it yielded. No cursor is refused, and
 // one that has ended yields no more. A set that isn't well formed is refused by number, before anything else; a refused call writes no cell.
+#![tactic(auto)]
+
 ghost use Rattle.std.specs.Prelude.{◌≡◌, ◌≤◌, length};
 ghost use Rattle.sparse_inner.specs.Set.{full, Well, set_of, over};
 ghost use Rattle.sparse_values.specs.Calls.{start, next_of, past_held, complement_start, complement_next_of, written, to_vec_of};
@@ -14,19 +16,19 @@ use sparse::Counted;
 use sparse_inner::{Sparse, Verdict};
 
 // The cell of the next held value.
-#[derive(Drop)]
+#[derive(Clone, Copy)]
 pub struct HeldCursor {
     pub at: u32,
 }
 
 // The cell of the next value that is not held; where a held one stands there, the first that isn't.
-#[derive(Drop)]
+#[derive(Clone, Copy)]
 pub struct ComplementCursor {
     pub at: u32,
 }
 
 // The next value, or that there is none.
-#[derive(Drop)]
+#[derive(Clone, Copy)]
 pub enum Yielded {
     Next(Value),
     End,
@@ -34,14 +36,14 @@ pub enum Yielded {
 }
 
 // A cursor handed back, and what it yielded.
-#[derive(Drop)]
+#[derive(Clone, Copy)]
 pub struct Stepped {
     pub cursor: HeldCursor,
     pub answer: Yielded,
 }
 
 // The same of the values that are not held.
-#[derive(Drop)]
+#[derive(Clone, Copy)]
 pub struct ComplementStepped {
     pub cursor: ComplementCursor,
     pub answer: Yielded,

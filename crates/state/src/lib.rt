@@ -5,6 +5,8 @@
 //
 // What is written is read back as the same board, and words that fit are the writing of the board that they are read as:
 // proofs/Theorems.
+#![tactic(auto)]
+
 ghost use Rattle.std.specs.Prelude.{◌≡◌, true, ◌++◌, ◌<◌, ◌≤◌, ◌^◌, ◌/◌, ◌%◌, length, take, drop, get_or};
 ghost use Rattle.std.proofs.lemmas.List.Edits.{sets};
 ghost use Rattle.state.specs.Layout.{size, start, half, chute_at, ends_word, flag_of, row_words, rows_words, written_of, fits_of, row_in, rows_in, read_of};

@@ -4,6 +4,8 @@
 // differ in any way: a value is carried from one to another as an i32.
 //
 // strike_others, strike_outside, strike_unassigned
+#![tactic(auto)]
+
 ghost use Rattle.std.specs.Prelude.{◌≡◌, List, [], ◌∷◌, ◌<◌, ◌≤◌, ℤ, length, take};
 ghost use Rattle.rules.specs.Sets.{strike};
 ghost use Rattle.rules.specs.Pass.{sweep};
@@ -17,7 +19,7 @@ use mask::Mask;
 use masks::Masks;
 
 // Whether a removal took a value away, and whether it emptied no domain.
-#[derive(Drop)]
+#[derive(Clone, Copy)]
 pub struct Outcome {
     pub changed: bool,
     pub consistent: bool,

@@ -4,6 +4,8 @@
 //
 // A mark saves every domain; restore brings back the newest mark's domains and closes it; keep closes it only. None
 // touches `domains_changed`. A call checks the board once, and hands back one that isn't well formed as it came.
+#![tactic(auto)]
+
 ghost use Rattle.std.specs.Prelude.{◌≡◌};
 ghost use Rattle.trial.specs.Marks.{turns_of, deeper_of, fewer_of, settle_of, mark_of, restore_of, keep_of};
 

@@ -3,6 +3,8 @@
 // wave
 //
 // The text is made in bytes of its own, so that a call that is refused writes nothing. No sheet's text is longer than MOST.
+#![tactic(auto)]
+
 ghost use Rattle.std.specs.Prelude.{◌≡◌, ◌≤◌, length};
 ghost use Rattle.decimal.specs.Put.{put_of};
 ghost use Rattle.wave_print.specs.Print.{most};

@@ -4,6 +4,8 @@
 //
 // No mark is open and there are no more destinations than rows, so that no registration is refused; each leaves the board well formed, so that none
 // has to look it over.
+#![tactic(auto)]
+
 ghost use Rattle.std.specs.Prelude.{◌≡◌, ◌≤◌, get_or, take};
 ghost use Rattle.board.specs.Rows.{seat_in};
 ghost use Rattle.board_enter.specs.Enter.{place_for};
@@ -13,7 +15,7 @@ use board::Row;
 use sheet_form::Destination;
 
 // The rows of a board, and how many of them are registered.
-#[derive(Drop)]
+#[derive(Clone, Copy)]
 pub struct Registered {
     pub rows: [Row; 64],
     pub count: usize,

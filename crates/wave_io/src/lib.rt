@@ -3,6 +3,8 @@
 // print_input, print_argument
 //
 // All that matters is in `wave`. A board is written whole, once all of it is known.
+#![tactic(auto)]
+
 ghost use Rattle.std.specs.Prelude.{◌≡◌, length};
 ghost use Rattle.io.specs.Counts.{IsPrefixLen};
 

@@ -3,6 +3,8 @@
 // spread, least
 //
 // Every propagation leaves the rows well formed, so that none has to look the board over.
+#![tactic(auto)]
+
 ghost use Rattle.std.specs.Prelude.{◌≡◌, true, map, ◌≤◌, min, take};
 ghost use Rattle.board_spread.specs.Spread.{sound_rows};
 ghost use Rattle.wave_form.specs.Wave.{line_of, part};
@@ -13,7 +15,7 @@ use board_spread::Pair;
 use sheet_form::{Line, Span};
 
 // Rows as the last list leaves them, and what each list was answered; the other lines are blank.
-#[derive(Drop)]
+#[derive(Clone, Copy)]
 pub struct Listed {
     pub rows: [Row; 64],
     pub lines: [Line; 16],

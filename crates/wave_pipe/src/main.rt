@@ -2,6 +2,8 @@
 // with the input.
 //
 // The comparison with the Rust (differential/run) reaches the calls through it.
+#![tactic(auto)]
+
 const FRAME: usize = 65536;
 
 fn main() {

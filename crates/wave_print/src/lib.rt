@@ -3,6 +3,8 @@
 // put_board, put_refusal
 //
 // The bytes must have room: no board's text is longer than `most` of specs/Print, which is `wave::MOST`.
+#![tactic(auto)]
+
 ghost use Rattle.std.specs.Prelude.{◌≡◌, ◌+◌, ◌≤◌, ◌<◌, length, take};
 ghost use Rattle.board.specs.View.{rows_of, held_at};
 ghost use Rattle.decimal.specs.Decimal.{natural, decimal};

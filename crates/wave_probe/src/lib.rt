@@ -3,6 +3,8 @@
 // probe_wave: a script of sheets, the texts out. bench_wave: one sheet, its text out.
 //
 // They have no `requires`: they are safe on whatever they are lent.
+#![tactic(auto)]
+
 ghost use Rattle.std.specs.Prelude.{◌≡◌, ◌+◌, ◌≤◌, length};
 
 use domain::Counted;

@@ -3,6 +3,8 @@
 // run
 //
 // The board starts blank and every step leaves it well formed, so that it is never looked over.
+#![tactic(auto)]
+
 ghost use Rattle.std.specs.Prelude.{◌≡◌};
 ghost use Rattle.wave_form.specs.Wave.{ran_of, sheet_of};
 

@@ -1,4 +1,6 @@
 // The sample sheets in turn, each in the file that an argument names: the gate runs it over all of sheets/.
+#![tactic(auto)]
+
 fn main() {
     let n = os::arg_count();
     let mut i = 1;
