@@ -1,7 +1,6 @@
 -- A chain of steps, one after the other: what is done, and what is left. Assumes nothing.
-use mathlib.Core.Path.{◌≡◌, sym, ap, ◌∙◌}
-use mathlib.Core.Bool.{Bool, true, false, ◌||◌}
-use mathlib.Core.List.{List, [], ◌∷◌}
+use Rattle.std.specs.Prelude.{◌≡◌, Bool, true, false, ◌||◌, List, [], ◌∷◌}
+use Rattle.std.proofs.Common.{sym, ap, ◌∙◌}
 use Rattle.rules.specs.Sets.{Chutes}
 use Rattle.rules.specs.Pass.{Swept, still, next, chain}
 use Rattle.rules.proofs.Tests.{or-false, or_assoc}

@@ -1,18 +1,9 @@
 -- The assigned places and their values: gathered place by place, and what they come to in step 1. Assumes nothing.
-use mathlib.Core.Path.{◌≡◌, sym, ◌∙◌, subst}
-use mathlib.Core.Bool.{true, false}
-use mathlib.Core.List.{List}
-use mathlib.Core.Logic.{inl, inr, ⊎_elim}
-use Prim.Native.Nat.{ℕ, suc, ◌<◌}
-use native.Mathlib.Nat.{not-suc-le-zero}
-use native.Mathlib.Decide.{ℕ_discrete}
-use native.Mathlib.Omega.{arith}
-use lib.Bits.{bit_and, bit_or}
-use lib.Count.{ones}
-use lib.Dec.{T}
-use lib.IntN.{ℤ, pos, ◌+ℤ◌}
-use lib.ListN.{get_or}
-use borrow.Author.Tests.{eqb-true, ne_eqb, eq-eqb}
+use Rattle.std.specs.Prelude.{◌≡◌, true, false, List, ℕ, suc, ◌<◌, T, ℤ, pos, ◌+ℤ◌, get_or}
+use Rattle.std.specs.Int.Bits.{bit_and, bit_or}
+use Rattle.std.specs.Int.Count.{ones}
+use Rattle.std.proofs.Common.{sym, ◌∙◌, subst, inl, inr, ⊎_elim, not-suc-le-zero, arith, eqb-true, ne_eqb, eq-eqb}
+use Rattle.std.proofs.Math.Decide.{ℕ_discrete}
 use Rattle.mask.specs.Bit.{has-lowest}
 use Rattle.mask.specs.Val.{val}
 use Rattle.mask.specs.Sets.{In, in-none, in_and, in-or, pos-of-ones}

@@ -1,15 +1,7 @@
 -- The values that are gathered: each once, and the union's. Assumes nothing.
-use mathlib.Core.Path.{◌≡◌, refl, sym, ap, ap₂, ◌∙◌, subst}
-use mathlib.Core.Bool.{Bool, true, false, not, ◌||◌, cond, true≢false}
-use mathlib.Core.List.{List, [], ◌∷◌, ◌++◌, map}
-use mathlib.Core.Logic.{◌⊎◌, inl, inr, ⊎_elim}
-use Prim.Native.Nat.{ℕ, suc, ◌+◌, ◌^◌, ◌≤◌, ◌<◌}
-use native.Mathlib.Nat.{le_refl, le_trans}
-use native.Mathlib.Omega.{arith}
-use lib.Dec.{T, T_not, not_T}
-use lib.IntN.{ℤ, pos, ◌+ℤ◌}
-use lib.ListN.{length, get_or, drop, length-append, drop_of_length-le}
-use lib.Seq.{drop-cons}
+use Rattle.std.specs.Prelude.{◌≡◌, refl, Bool, true, false, not, ◌||◌, cond, List, [], ◌∷◌, ◌++◌, map, ◌⊎◌, ℕ, suc, ◌+◌, ◌^◌, ◌≤◌, ◌<◌, T, ℤ, pos, ◌+ℤ◌, length, get_or, drop}
+use Rattle.std.proofs.Common.{sym, ap, ap₂, ◌∙◌, subst, true≢false, inl, inr, ⊎_elim, le_refl, le_trans, arith, T_not, length-append, drop_of_length-le, drop-cons}
+use lib.Dec.{not_T}
 use Rattle.mask.specs.Bit.{Lowest, bit_minus}
 use Rattle.mask.specs.Val.{val}
 use Rattle.mask.specs.Sets.{members, members-first}

@@ -1,20 +1,11 @@
 -- Step 2 is a chain over the table: a subset is idle if it has a place beyond the list, or one with too many values. Assumes nothing.
-use mathlib.Core.Path.{◌≡◌, refl, sym, ap, ◌∙◌, subst}
-use mathlib.Core.Bool.{Bool, true, false, cond, true≢false}
-use mathlib.Core.List.{List, [], ◌∷◌}
-use mathlib.Core.Logic.{◌⊎◌, inl, inr}
-use Prim.Native.Nat.{ℕ, zero, suc, ◌+◌, ◌-◌, ◌^◌, ◌<◌, ◌≤◌, suc-le-suc}
-use native.Mathlib.Nat.{le_refl, add-zero, suc-add, add-suc, le_of_suc-le-suc, not-suc-le-zero, zero-lt-suc, lt_of_lt_of_le}
-use native.Mathlib.Decide.{ℕ_discrete}
-use native.Mathlib.Omega.{arith}
-use lib.Bits.{bit_and, bit_or, or_lt}
-use lib.Count.{ones}
-use lib.Dec.{leb, ltb}
-use lib.IntN.{ℤ, pos}
-use lib.ListN.{length, get_or, drop, drop_of_length-le}
-use lib.Pow.{pow-lt, pow_mono}
-use lib.Seq.{drop-cons}
-use borrow.Author.Tests.{eqb-true, eq-eqb, le-leb, ltb-true, lt-ltb}
+use Rattle.std.specs.Prelude.{◌≡◌, refl, Bool, true, false, cond, List, [], ◌∷◌, ◌⊎◌, ℕ, zero, suc, ◌+◌, ◌-◌, ◌^◌, ◌<◌, ◌≤◌, leb, ltb, ℤ, pos, length, get_or, drop}
+use Rattle.std.specs.Int.Bits.{bit_and, bit_or}
+use Rattle.std.specs.Int.Count.{ones}
+use Rattle.std.proofs.Common.{sym, ap, ◌∙◌, subst, true≢false, inl, inr, suc-le-suc, le_refl, add-zero, suc-add, add-suc, le_of_suc-le-suc, not-suc-le-zero, zero-lt-suc, lt_of_lt_of_le, arith, drop_of_length-le, pow_mono, drop-cons, eqb-true, eq-eqb, le-leb, ltb-true, lt-ltb}
+use Rattle.std.proofs.Math.Decide.{ℕ_discrete}
+use Rattle.std.proofs.lemmas.Nat.{or_lt}
+use Rattle.std.proofs.Math.Pow.{pow-lt}
 use Rattle.mask.specs.Bit.{bit}
 use Rattle.mask.specs.Val.{val}
 use Rattle.mask.specs.Sets.{In, in-or, in_one, in-lt, fits_in, subset-in}

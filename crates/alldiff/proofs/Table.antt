@@ -1,13 +1,7 @@
 -- The sizes of the table's subsets: 15 of two places, 20 of three, 15 of four. Assumes nothing.
-use mathlib.Core.Path.{◌≡◌, sym, ◌∙◌, subst}
-use mathlib.Core.Bool.{Bool, true, false, ◌&&◌, cond}
-use mathlib.Core.List.{List, [], ◌∷◌}
-use Prim.Native.Nat.{ℕ, zero, suc, ◌+◌, ◌<◌, ◌≤◌}
-use native.Mathlib.Nat.{add-zero, zero-add, add-suc, suc-add, le_of_suc-le-suc, not-suc-le-zero}
-use native.Mathlib.Omega.{arith}
-use lib.Count.{ones}
-use lib.Dec.{T, eqb, eqb→eq, ltb}
-use lib.ListN.{length, get_or}
+use Rattle.std.specs.Prelude.{◌≡◌, Bool, true, false, ◌&&◌, cond, List, [], ◌∷◌, ℕ, zero, suc, ◌+◌, ◌<◌, ◌≤◌, T, eqb, ltb, length, get_or}
+use Rattle.std.specs.Int.Count.{ones}
+use Rattle.std.proofs.Common.{sym, ◌∙◌, subst, add-zero, zero-add, add-suc, suc-add, le_of_suc-le-suc, not-suc-le-zero, arith, eqb→eq}
 use Rattle.rules.specs.Table.{table, table-size}
 use Rattle.rules.proofs.Tests.{and_left, and_right}
 

@@ -1,12 +1,8 @@
 -- What a caller of the pass knows besides: masks only lose values, so what fitted a universe still fits; the listed domains only shrink; and the
 -- contract admits one outcome. Assumes nothing.
-use mathlib.Core.Path.{◌≡◌, sym, ap, ◌∙◌, subst}
-use mathlib.Core.List.{List, []}
-use Prim.Native.Nat.{ℕ, ◌^◌, ◌<◌}
-use native.Mathlib.Decide.{dec_lt}
-use native.Mathlib.Omega.{arith}
-use lib.IntN.{ℤ, pos}
-use lib.ListN.{get_or}
+use Rattle.std.specs.Prelude.{◌≡◌, List, [], ℕ, ◌^◌, ◌<◌, ℤ, pos, get_or}
+use Rattle.std.proofs.Common.{sym, ap, ◌∙◌, subst, arith}
+use Rattle.std.proofs.Math.Decide.{dec_lt}
 use Rattle.mask.specs.Val.{val, Fit, mask_of, mask-val}
 use Rattle.mask.specs.Sets.{In, fits_in}
 use Rattle.rules.specs.Sets.{Chutes}

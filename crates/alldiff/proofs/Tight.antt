@@ -1,17 +1,9 @@
 -- Whether a subset is tight, by the values that are gathered, and what it then does. Assumes nothing.
-use mathlib.Core.Path.{◌≡◌, refl, sym, ap, ◌∙◌}
-use mathlib.Core.Bool.{Bool, true, false, not}
-use mathlib.Core.List.{List, [], ◌∷◌}
-use Prim.Native.Nat.{ℕ, zero, suc, ◌/◌, ◌%◌, ◌^◌, ◌<◌, ◌≤◌}
-use native.Mathlib.Nat.{pow-suc}
-use native.Mathlib.Decide.{dec_le}
-use native.Mathlib.Omega.{arith}
-use lib.Count.{ones, ones_step}
-use lib.Dec.{eqb}
-use lib.IntN.{ℤ}
-use lib.ListN.{length, take}
-use lib.Seq.{length-take-le}
-use borrow.Author.Tests.{eqb-true, eqb-false, eq-eqb, ne_eqb}
+use Rattle.std.specs.Prelude.{◌≡◌, refl, Bool, true, false, not, List, [], ◌∷◌, ℕ, zero, suc, ◌/◌, ◌%◌, ◌^◌, ◌<◌, ◌≤◌, eqb, ℤ, length, take}
+use Rattle.std.specs.Int.Count.{ones, ones_step}
+use Rattle.std.proofs.Common.{sym, ap, ◌∙◌, pow-suc, arith, length-take-le, eqb-true, eq-eqb, ne_eqb}
+use Rattle.std.proofs.Math.Decide.{dec_le}
+use Rattle.std.proofs.lemmas.Bool.{eqb-false}
 use Rattle.mask.specs.Sets.{ones_none}
 use Rattle.rules.specs.Sets.{Chutes, has, strike, union}
 use Rattle.rules.specs.Pass.{Places, pick, still, sweep, tight, present}

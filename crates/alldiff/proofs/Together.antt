@@ -1,17 +1,11 @@
 -- Step 1 at once: where the assigned places have different values, and all of these together can be struck from the others
 -- without emptying one, striking them one after the other comes to the same. Assumes nothing.
-use mathlib.Core.Path.{◌≡◌, refl, sym, ap, ap₂, ◌∙◌, subst}
-use mathlib.Core.Bool.{Bool, true, false, not, ◌&&◌, ◌||◌, cond, true≢false}
-use mathlib.Core.List.{List, [], ◌∷◌, ◌++◌}
-use mathlib.Core.Logic.{⊎_elim}
-use Prim.Native.Nat.{ℕ, zero, suc, ◌+◌, ◌≤◌, ◌<◌}
-use native.Mathlib.Nat.{le_refl, sub-zero, add-zero, le_of_suc-le-suc, not-suc-le-zero, zero-lt-suc}
-use native.Mathlib.Decide.{ℕ_discrete, dec_le}
-use native.Mathlib.Omega.{arith}
-use lib.Dec.{T, eqb, ltb, T_not, not_T}
-use lib.ListN.{length, get_or, get_or-eq_default}
-use lib.IntN.{ℤ, pos}
-use borrow.Author.Tests.{eqb-true, ltb-true, ltb-false, lt-ltb, le-ltb}
+use Rattle.std.specs.Prelude.{◌≡◌, refl, Bool, true, false, not, ◌&&◌, ◌||◌, cond, List, [], ◌∷◌, ◌++◌, ℕ, zero, suc, ◌+◌, ◌≤◌, ◌<◌, T, eqb, ltb, length, get_or, ℤ, pos}
+use Rattle.std.proofs.Common.{sym, ap, ap₂, ◌∙◌, subst, true≢false, ⊎_elim, le_refl, add-zero, le_of_suc-le-suc, not-suc-le-zero, zero-lt-suc, arith, T_not, eqb-true, ltb-true, ltb-false, lt-ltb, le-ltb}
+use Rattle.std.proofs.Math.Nat.{sub-zero}
+use Rattle.std.proofs.Math.Decide.{ℕ_discrete, dec_le}
+use lib.Dec.{not_T}
+use lib.ListN.{get_or-eq_default}
 use Rattle.mask.specs.Sets.{count_up}
 use Rattle.rules.specs.Sets.{Chutes, has, some, strike}
 use Rattle.rules.specs.Pass.{Places, choose, Swept, still, lost, sweep, next, chain, tight, noted, step1}

@@ -1,11 +1,7 @@
 -- The pass from its two steps, case by case. Assumes nothing.
-use mathlib.Core.Path.{◌≡◌, sym, ap, ◌∙◌}
-use mathlib.Core.Bool.{Bool, true, false, ◌&&◌, ◌||◌, cond}
-use mathlib.Core.List.{List}
-use Prim.Native.Nat.{◌<◌, ◌≤◌}
-use lib.Dec.{leb}
-use lib.ListN.{length}
-use borrow.Author.Tests.{le-leb, lt-leb}
+use Rattle.std.specs.Prelude.{◌≡◌, Bool, true, false, ◌&&◌, ◌||◌, cond, List, ◌<◌, ◌≤◌, leb, length}
+use Rattle.std.proofs.Common.{sym, ap, ◌∙◌, le-leb}
+use Rattle.std.proofs.lemmas.Bool.{lt-leb}
 use Rattle.rules.specs.Sets.{Chutes}
 use Rattle.rules.specs.Pass.{Swept, still, step1, step2, pass, raises}
 

@@ -1,15 +1,7 @@
 -- Rows closing by closing: each closing goes by the seat of its id, keeps every id where it stands, and leaves well-formed domains.
-use mathlib.Core.Path.{◌≡◌, refl, sym, ap, ◌∙◌}
-use mathlib.Core.Bool.{Bool, true, false, cond}
-use mathlib.Core.List.{List, [], ◌∷◌, ◌++◌, map}
-use Prim.Native.Nat.{ℕ, ◌+◌, ◌<◌, ◌≤◌}
-use native.Mathlib.Numerals.{add-one}
-use native.Mathlib.Omega.{arith}
-use lib.Dec.{ltb}
-use lib.ListN.{length, get_or, set, take, length-set, length-map}
-use lib.Seq.{take-suc}
-use lib.IntN.{pos}
-use borrow.Author.Tests.{lt-ltb, le-ltb, ltb-true}
+use Rattle.std.specs.Prelude.{◌≡◌, refl, Bool, true, false, cond, List, [], ◌∷◌, ◌++◌, map, ℕ, ◌+◌, ◌<◌, ◌≤◌, ltb, length, get_or, set, take, pos}
+use Rattle.std.proofs.Common.{sym, ap, ◌∙◌, add-one, arith, length-set, take-suc, lt-ltb, le-ltb, ltb-true}
+use Rattle.std.proofs.lemmas.List.{length-map}
 use Rattle.rules.specs.Board as rules
 use Rattle.domain.specs.Set.{set_of, well}
 use Rattle.domain.specs.declared.BitDomain.{BitDomain}

@@ -1,6 +1,5 @@
 -- A batch leaves words of 64 bits, on every input, since each of its closings does.
-use mathlib.Core.Bool.{Bool, true, false, cond}
-use mathlib.Core.List.{List, [], ◌∷◌}
+use Rattle.std.specs.Prelude.{Bool, true, false, cond, List, [], ◌∷◌}
 use Rattle.rules.specs.declared.Refusal.TheVariants.{Broken}
 use Rattle.domain.specs.declared.Counted.TheVariants as counted
 use Rattle.closing.specs.Kinds.{kind_of}

@@ -1,11 +1,7 @@
 -- How far a lent run has come: what is closed of it, and what stands in the run of 256 that is being filled.
-use mathlib.Core.Path.{◌≡◌, refl, sym, ap, ◌∙◌, subst}
-use mathlib.Core.List.{List, [], ◌∷◌, ◌++◌}
-use Prim.Native.Nat.{ℕ, ◌+◌, ◌*◌, ◌<◌, ◌≤◌, ◌^◌}
-use native.Mathlib.Numerals.{add-one}
-use native.Mathlib.Omega.{arith}
-use lib.ListN.{length, get_or, set, take, drop, length-drop, length-set}
-use lib.Seq.{take-suc, take-suc-set, take_all, take-add, get_or-drop}
+use Rattle.std.specs.Prelude.{◌≡◌, refl, List, [], ◌∷◌, ◌++◌, ℕ, ◌+◌, ◌*◌, ◌<◌, ◌≤◌, ◌^◌, length, get_or, set, take, drop}
+use Rattle.std.proofs.Common.{sym, ap, ◌∙◌, subst, add-one, arith, length-drop, length-set, take-suc, take-suc-set, take_all, take-add}
+use lib.Seq.{get_or-drop}
 use Rattle.closing.specs.declared.Closing.{Closing}
 use Rattle.board.specs.Obeys.{Whole}
 use Rattle.board.specs.declared.Board.{Board}

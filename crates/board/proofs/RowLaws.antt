@@ -1,14 +1,7 @@
 -- Rows by place, as the rules see them: what is known, held, put and added goes by the seat of an id.
-use mathlib.Core.Path.{◌≡◌, refl, sym, ap, ◌∙◌}
-use mathlib.Core.Bool.{Bool, true, false, not, ◌||◌, cond}
-use mathlib.Core.List.{List, [], ◌∷◌, ◌++◌}
-use mathlib.Core.Logic.{⊎_elim}
-use Prim.Native.Nat.{ℕ, zero, suc, ◌+◌, ◌<◌, ◌≤◌, zero-le}
-use native.Mathlib.Nat.{eq-or-lt_of_le, le_refl, zero-add}
-use native.Mathlib.Omega.{arith}
-use lib.Dec.{T, eqb}
-use lib.ListN.{length}
-use borrow.Author.Tests.{eqb-true, eqb-false, eq-eqb, ne_eqb}
+use Rattle.std.specs.Prelude.{◌≡◌, refl, Bool, true, false, not, ◌||◌, cond, List, [], ◌∷◌, ◌++◌, ℕ, zero, suc, ◌+◌, ◌<◌, ◌≤◌, T, eqb, length}
+use Rattle.std.proofs.Common.{sym, ap, ◌∙◌, ⊎_elim, zero-le, eq-or-lt_of_le, le_refl, zero-add, arith, eqb-true, eq-eqb, ne_eqb}
+use Rattle.std.proofs.lemmas.Bool.{eqb-false}
 use Rattle.rules.specs.Sets.{Chutes, Ascending}
 use Rattle.rules.specs.Board as rules
 use Rattle.rules.proofs.Tests.{and_both}

@@ -1,12 +1,8 @@
 -- What it says that a board is well formed, clause by clause, and what shows it.
-use mathlib.Core.Path.{◌≡◌, refl, sym, ap, ◌∙◌, subst}
-use mathlib.Core.Bool.{Bool, true, false, ◌&&◌, cond}
-use mathlib.Core.List.{List}
-use Prim.Native.Nat.{ℕ, ◌^◌, ◌<◌, ◌≤◌}
-use lib.Arith.{lt-one}
-use lib.Dec.{eqb, leb, ltb}
-use lib.Pow.{pow_pos}
-use borrow.Author.Tests.{eqb-true, leb-true, le-leb, lt-leb}
+use Rattle.std.specs.Prelude.{◌≡◌, refl, Bool, true, false, ◌&&◌, cond, List, ℕ, ◌^◌, ◌<◌, ◌≤◌, eqb, leb, ltb}
+use Rattle.std.proofs.Common.{sym, ap, ◌∙◌, subst, pow_pos, eqb-true, leb-true, le-leb}
+use Rattle.std.proofs.Math.Arith.{lt-one}
+use Rattle.std.proofs.lemmas.Bool.{lt-leb}
 use Rattle.mask.specs.Val.{val, offsets}
 use Rattle.mask.specs.Tests.{eqb-ltb-iff}
 use Rattle.offset.specs.Places.{span_of}

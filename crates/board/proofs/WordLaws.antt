@@ -1,8 +1,6 @@
 -- Rows whose masks are of words, row by row.
-use mathlib.Core.List.{List, [], ◌∷◌}
-use Prim.Native.Nat.{ℕ, zero, suc}
-use lib.Dec.{lit<}
-use lib.ListN.{set}
+use Rattle.std.specs.Prelude.{List, [], ◌∷◌, ℕ, zero, suc, set}
+use Rattle.std.proofs.Common.{lit<}
 use Rattle.mask.specs.Val.{Fit}
 use Rattle.domain.specs.declared.BitDomain.{BitDomain}
 use Rattle.board.specs.Rows.{row_at, domain_at, with_domain}

@@ -1,9 +1,7 @@
 -- The ends of chutes that ascend are the smallest and the largest, and the only chute is as the rules have it.
-use mathlib.Core.Path.{◌≡◌, refl, sym, ap, ◌∙◌}
-use mathlib.Core.Bool.{Bool, true, false, cond}
-use mathlib.Core.List.{[], ◌∷◌}
-use lib.IntN.{ℤ}
-use lib.Signed.{lt_z}
+use Rattle.std.specs.Prelude.{◌≡◌, refl, Bool, true, false, cond, [], ◌∷◌, ℤ}
+use Rattle.std.specs.Int.Signed.{lt_z}
+use Rattle.std.proofs.Common.{sym, ap, ◌∙◌}
 use Rattle.rules.specs.Board as rules
 use Rattle.rules.specs.Sets.{Chutes, some, Ascending, largest}
 use Rattle.rules.specs.declared.Refusal.TheVariants.{Empty}

@@ -1,12 +1,8 @@
 -- The ids of rows: how many they are, and written one by one.
-use mathlib.Core.Path.{◌≡◌, sym, ap, ◌∙◌}
-use mathlib.Core.List.{List, [], ◌++◌}
-use Prim.Native.Nat.{ℕ, suc, ◌+◌, ◌-◌, ◌<◌, ◌≤◌}
-use native.Mathlib.Nat.{zero-add}
-use native.Mathlib.Numerals.{add-one}
-use native.Mathlib.Omega.{arith}
-use lib.ListN.{length, set, drop, length-map}
-use lib.Seq.{sets, sets-eq}
+use Rattle.std.specs.Prelude.{◌≡◌, List, [], ◌++◌, ℕ, suc, ◌+◌, ◌-◌, ◌<◌, ◌≤◌, length, set, drop}
+use Rattle.std.proofs.Common.{sym, ap, ◌∙◌, zero-add, add-one, arith}
+use Rattle.std.proofs.lemmas.List.{length-map}
+use Rattle.std.proofs.lemmas.List.Edits.{sets, sets-eq}
 use Rattle.rules.specs.Board as rules
 use Rattle.board.specs.View.{rows_from}
 use Rattle.board.proofs.RowLaws.{rows-length}

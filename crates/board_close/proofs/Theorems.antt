@@ -1,10 +1,6 @@
 -- The closings and the flag's calls do as the rules say, on every well-formed board; one that isn't comes back as it came.
-use mathlib.Core.Path.{◌≡◌, refl, sym, ap, ◌∙◌, subst}
-use mathlib.Core.Bool.{Bool, true, false, ◌||◌}
-use Prim.Native.Nat.{◌<◌, ◌≤◌}
-use lib.Dec.{ltb}
-use lib.ListN.{length, length-set}
-use borrow.Author.Tests.{ltb-true, ltb-false}
+use Rattle.std.specs.Prelude.{◌≡◌, refl, Bool, true, false, ◌||◌, ◌<◌, ◌≤◌, ltb, length}
+use Rattle.std.proofs.Common.{sym, ap, ◌∙◌, subst, length-set, ltb-true, ltb-false}
 use Rattle.rules.specs.Sets.{Chutes, keep}
 use Rattle.rules.specs.Board as rules
 use Rattle.rules.specs.declared.Refusal.TheVariants.{Broken}

@@ -1,6 +1,5 @@
 -- A closing and the flag's reset leave words of 64 bits, on every input: the mask of the row that is closed is made of them, and no other word changes.
-use mathlib.Core.Bool.{Bool, true, false, cond}
-use lib.Dec.{ltb}
+use Rattle.std.specs.Prelude.{Bool, true, false, cond, ltb}
 use Rattle.mask.specs.Val.{mask-fit}
 use Rattle.rules.specs.Sets.{keep}
 use Rattle.rules.specs.Board as rules

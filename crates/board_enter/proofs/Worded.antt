@@ -1,8 +1,6 @@
 -- A new board is of words of 64 bits, and a registration leaves such words, on every input.
-use mathlib.Core.Bool.{Bool, true, false, cond}
-use Prim.Native.Nat.{ℕ, zero, suc, ◌+◌}
-use lib.Dec.{lit<, eqb, ltb}
-use lib.ListN.{replicate}
+use Rattle.std.specs.Prelude.{Bool, true, false, cond, ℕ, zero, suc, ◌+◌, eqb, ltb, replicate}
+use Rattle.std.proofs.Common.{lit<}
 use Rattle.mask.specs.Val.{Fit}
 use Rattle.mask.specs.Words.{Words}
 use Rattle.rules.specs.Sets.{Chutes}

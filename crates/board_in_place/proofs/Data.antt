@@ -1,5 +1,5 @@
 -- The types of the calls, as the laws of `in_place` take them. Assumes nothing.
-use mathlib.Core.Path.{refl}
+use Rattle.std.specs.Prelude.{refl}
 use Rattle.in_place.proofs.PlainData.{Kind, struct_kind, enum_kind, Two, two}
 use Rattle.board_in_place.specs.Behind.{closed}
 use Rattle.rules.specs.contracts.Variable as Var

@@ -1,15 +1,10 @@
 -- A list's ids place by place: the cells written so far, the rows used so far, and the verdict that is still open.
-use mathlib.Core.Path.{◌≡◌, refl, sym, ap, ◌∙◌}
-use mathlib.Core.Bool.{Bool, true, false, ◌||◌}
-use mathlib.Core.List.{List, [], ◌∷◌, ◌++◌, map, map-append}
-use mathlib.Core.Logic.{◌⊎◌, inl, inr, ⊎_elim}
-use Prim.Native.Nat.{ℕ, suc, ◌+◌, ◌^◌, ◌<◌, ◌≤◌}
-use native.Mathlib.Omega.{arith}
-use lib.Bits.{bit_or}
-use lib.Dec.{eqb}
-use lib.ListN.{length, get_or, set, take, length-map}
-use lib.Seq.{sets, take-suc, length-take-le}
-use borrow.Author.Tests.{eqb-true, eqb-false, eq-eqb, ne_eqb, le-leb, lt-leb}
+use Rattle.std.specs.Prelude.{◌≡◌, refl, Bool, true, false, ◌||◌, List, [], ◌∷◌, ◌++◌, map, ◌⊎◌, ℕ, suc, ◌+◌, ◌^◌, ◌<◌, ◌≤◌, eqb, length, get_or, set, take}
+use Rattle.std.specs.Int.Bits.{bit_or}
+use Rattle.std.proofs.Common.{sym, ap, ◌∙◌, inl, inr, ⊎_elim, arith, take-suc, length-take-le, eqb-true, eq-eqb, ne_eqb, le-leb}
+use Rattle.std.proofs.lemmas.List.{map-append, length-map}
+use Rattle.std.proofs.lemmas.List.Edits.{sets}
+use Rattle.std.proofs.lemmas.Bool.{eqb-false, lt-leb}
 use Rattle.mask.specs.Bit.{bit}
 use Rattle.mask.specs.Sets.{in-none, in-with}
 use Rattle.mask.specs.Tests.{eqb-iff}

@@ -1,15 +1,8 @@
 -- The listed domains as they are gathered: one place more, and that every value of them is an i32.
-use mathlib.Core.Path.{◌≡◌, sym, ◌∙◌, subst}
-use mathlib.Core.Bool.{true}
-use mathlib.Core.List.{List}
-use Prim.Native.Nat.{ℕ, ◌+◌, ◌<◌}
-use native.Mathlib.Omega.{arith}
-use lib.IntN.{ℤ, pos, ◌+ℤ◌}
-use lib.ListN.{length, get_or, set}
+use Rattle.std.specs.Prelude.{◌≡◌, true, List, ℕ, ◌+◌, ◌<◌, ℤ, pos, ◌+ℤ◌, length, get_or, set}
+use Rattle.std.specs.Int.{w32}
+use Rattle.std.proofs.Common.{sym, ◌∙◌, subst, arith, SFits, below_more}
 use lib.Seq.{get_or-set_same, get_or-set_other}
-use mir.Syntax.{w32}
-use mir.Val.{SFits}
-use borrow.Author.Count.{below_more}
 use Rattle.mask.specs.Val.{val}
 use Rattle.mask.specs.Sets.{In}
 use Rattle.mask.specs.declared.Mask.{Mask}

@@ -1,11 +1,7 @@
 -- The ways through a propagation: a board that isn't well formed, a list that is refused, and the pass over the listed domains.
-use mathlib.Core.Path.{◌≡◌, refl, sym, ap, ◌∙◌, subst}
-use mathlib.Core.Bool.{Bool, true, false, ◌||◌}
-use mathlib.Core.List.{List, [], ◌∷◌, map}
-use Prim.Native.Nat.{ℕ, zero, suc, ◌<◌, ◌≤◌}
-use native.Mathlib.Omega.{arith}
-use lib.IntN.{ℤ}
-use lib.ListN.{length, get_or, length-map}
+use Rattle.std.specs.Prelude.{◌≡◌, refl, Bool, true, false, ◌||◌, List, [], ◌∷◌, map, ℕ, zero, suc, ◌<◌, ◌≤◌, ℤ, length, get_or}
+use Rattle.std.proofs.Common.{sym, ap, ◌∙◌, subst, arith}
+use Rattle.std.proofs.lemmas.List.{length-map}
 use lib.Seq.{ext_get_or}
 use Rattle.rules.specs.Sets.{Chutes}
 use Rattle.rules.specs.Pass.{Swept, pass, raises}

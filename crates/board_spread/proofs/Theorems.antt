@@ -1,12 +1,6 @@
 -- A propagation does as the rules say, on every well-formed board; one that isn't comes back as it came.
-use mathlib.Core.Path.{◌≡◌, refl, sym, ap, ◌∙◌, subst}
-use mathlib.Core.Bool.{Bool, true, false, not, ◌||◌}
-use mathlib.Core.List.{List, [], ◌∷◌, map}
-use mathlib.Core.Logic.{⊎_elim}
-use Prim.Native.Nat.{ℕ, suc, ◌<◌}
-use native.Mathlib.Omega.{arith}
-use lib.Dec.{T}
-use lib.ListN.{length, get_or}
+use Rattle.std.specs.Prelude.{◌≡◌, refl, Bool, true, false, not, ◌||◌, List, [], ◌∷◌, map, ℕ, suc, ◌<◌, T, length, get_or}
+use Rattle.std.proofs.Common.{sym, ap, ◌∙◌, subst, ⊎_elim, arith}
 use Rattle.offset.specs.Places.{span_of}
 use Rattle.rules.specs.Sets.{Chutes, has, Every, Ascending, Within, Different}
 use Rattle.rules.specs.Pass.{pass, raises, Fits}

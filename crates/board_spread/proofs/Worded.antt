@@ -1,7 +1,5 @@
 -- A propagation leaves words of 64 bits, on every input: the masks of the listed rows are made of them, and no other word changes.
-use mathlib.Core.Bool.{Bool, true, false, cond}
-use mathlib.Core.List.{List, [], ◌∷◌, map}
-use Prim.Native.Nat.{ℕ}
+use Rattle.std.specs.Prelude.{Bool, true, false, cond, List, [], ◌∷◌, map, ℕ}
 use Rattle.mask.specs.Val.{mask-fit}
 use Rattle.rules.specs.Sets.{Chutes}
 use Rattle.rules.specs.Pass.{pass}

@@ -1,8 +1,6 @@
 -- What the domains of the bit cases hold, by laws: 128 bits are too many to walk. The questions go by that.
-use mathlib.Core.Path.{◌≡◌, refl, ap, ◌∙◌}
-use mathlib.Core.Bool.{true}
-use lib.IntN.{pos}
-use lib.ListN.{length}
+use Rattle.std.specs.Prelude.{◌≡◌, refl, true, pos, length}
+use Rattle.std.proofs.Common.{ap, ◌∙◌}
 use Rattle.mask.specs.Val.{val, mask_of}
 use Rattle.mask.specs.Sets.{members_from, members_in}
 use Rattle.offset.specs.Places.{span_of}

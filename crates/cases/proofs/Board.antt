@@ -1,9 +1,6 @@
 -- The real board plays a case as the rules' board does, where its domains are near enough to each other to be bit domains.
-use mathlib.Core.Path.{◌≡◌, refl, ◌∙◌}
-use mathlib.Core.Bool.{Bool}
-use mathlib.Core.List.{List, [], ◌∷◌, ◌++◌, map}
-use Prim.Native.Nat.{ℕ, suc}
-use lib.Dec.{T}
+use Rattle.std.specs.Prelude.{◌≡◌, refl, Bool, List, [], ◌∷◌, ◌++◌, map, ℕ, suc, T}
+use Rattle.std.proofs.Common.{◌∙◌}
 use Rattle.ends.specs.Ends.{smallest_of, largest_of}
 use Rattle.rules.specs.Sets.{Chutes, ascending, every}
 use Rattle.rules.specs.Board as rules

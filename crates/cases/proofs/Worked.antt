@@ -1,6 +1,6 @@
 -- The table holds: the bit cases by laws, the sparse ones computed, and those of the pass because the real board plays them as the rules' board does,
 -- which is computed too.
-use mathlib.Core.Path.{refl}
+use Rattle.std.specs.Prelude.{refl}
 use Rattle.offset.specs.Places.{clip, span_of}
 use Rattle.order.specs.Order.{swapped, all_b, inverse_b, counted}
 use Rattle.decimal.specs.Decimal.{digits, natural, decimal}

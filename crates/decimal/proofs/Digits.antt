@@ -1,12 +1,7 @@
 -- Decimal digits, one at a time, and how many there are. Assumes nothing.
-use Prim.Native.Nat.{ℕ, zero, suc, ◌+◌, ◌*◌, ◌/◌, ◌%◌, ◌^◌, ◌≤◌, ◌<◌}
-use mathlib.Core.Path.{◌≡◌, refl, ap, sym, ◌∙◌, subst}
-use mathlib.Core.List.{List, [], ◌∷◌, ◌++◌}
-use native.Mathlib.Omega.{arith}
-use native.Mathlib.Nat.{pow-suc}
-use native.Mathlib.Decide.{le_ind}
-use lib.IntN.{ℤ, pos, negsuc, nat_abs}
-use lib.ListN.{length, length-append}
+use Rattle.std.specs.Prelude.{ℕ, zero, suc, ◌+◌, ◌*◌, ◌/◌, ◌%◌, ◌^◌, ◌≤◌, ◌<◌, ◌≡◌, refl, List, [], ◌∷◌, ◌++◌, ℤ, pos, negsuc, nat_abs, length}
+use Rattle.std.proofs.Common.{ap, sym, ◌∙◌, subst, arith, pow-suc, length-append}
+use Rattle.std.proofs.Math.Decide.{le_ind}
 use Rattle.decimal.specs.Decimal.{last_digit, digits, natural, decimal}
 
 -- ---- where there is room for the digits, more room changes nothing

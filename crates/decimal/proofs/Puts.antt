@@ -1,11 +1,7 @@
 -- Text put piece by piece. Assumes nothing.
-use Prim.Native.Nat.{ℕ, suc, ◌+◌, ◌≤◌}
-use mathlib.Core.Path.{◌≡◌, refl, ap, ap₂, sym, ◌∙◌}
-use mathlib.Core.List.{List, [], ◌∷◌, ◌++◌}
-use native.Mathlib.Omega.{arith}
-use native.Mathlib.Nat.{add-zero}
-use lib.ListN.{length, set, take, drop, length-append}
-use lib.Seq.{sets, sets-eq}
+use Rattle.std.specs.Prelude.{ℕ, suc, ◌+◌, ◌≤◌, ◌≡◌, refl, List, [], ◌∷◌, ◌++◌, length, set, take, drop}
+use Rattle.std.proofs.Common.{ap, ap₂, sym, ◌∙◌, arith, add-zero, length-append}
+use Rattle.std.proofs.lemmas.List.Edits.{sets, sets-eq}
 use Rattle.decimal.specs.Put.{Put, put_of}
 
 abbrev put : ℕ → List ℕ → Put

@@ -1,16 +1,10 @@
 -- A signed number and its magnitude. What the machine reads of a signed number is made of its bits: `read`. Assumes nothing.
-use Prim.Native.Nat.{ℕ, suc, ◌+◌, ◌-◌, ◌^◌, ◌≤◌, ◌<◌}
-use mathlib.Core.Path.{◌≡◌, refl, ap, sym, ◌∙◌, subst⁻¹}
-use mathlib.Core.Bool.{true, false, true≢false}
-use mathlib.Core.List.{◌∷◌}
-use native.Mathlib.Omega.{arith}
-use lib.Dec.{T}
-use lib.IntN.{ℤ, pos, negsuc, nat_abs, ◌-ℤ◌}
-use lib.Signed.{lt_z, non_neg}
-use mir.Syntax.{w64}
-use mir.Val.{SFits, Fits, to_z, of_z}
-use mir.ValLaws.{to_z-of_z}
-use borrow.Author.Tests.{le-ltb, ltb-true}
+use Rattle.std.specs.Prelude.{ℕ, suc, ◌+◌, ◌-◌, ◌^◌, ◌≤◌, ◌<◌, ◌≡◌, refl, true, false, ◌∷◌, T, ℤ, pos, negsuc, nat_abs, ◌-ℤ◌}
+use Rattle.std.specs.Int.Signed.{lt_z, non_neg}
+use Rattle.std.specs.Int.{w64}
+use Rattle.std.proofs.Common.{ap, sym, ◌∙◌, true≢false, arith, SFits, Fits, to_z, of_z, le-ltb, ltb-true}
+use Rattle.std.proofs.lemmas.Int.{to_z-of_z}
+use mathlib.Core.Path.{subst⁻¹}
 use Rattle.decimal.specs.Decimal.{natural, decimal}
 
 abbrev pub read : ℤ → ℤ

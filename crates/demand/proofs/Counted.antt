@@ -1,13 +1,8 @@
 -- Which work counts in a trial: a refused call adds nothing to the work in force (`refused-uncounted`), and an inner mark, whatever is done while it
 -- is open, and its restore add nothing either (`undone-uncounted`). Without these a list too many in the work would only make demand 3 say less.
-use mathlib.Core.Path.{◌≡◌, refl, sym, ap, ◌∙◌, subst}
-use mathlib.Core.Bool.{Bool, true, false, ◌||◌, cond}
-use mathlib.Core.List.{List, [], ◌∷◌, ◌++◌, map, map-append}
-use Prim.Native.Nat.{ℕ, suc, ◌+◌, ◌<◌}
-use native.Mathlib.Numerals.{add-one}
-use native.Mathlib.Omega.{arith}
-use lib.Dec.{T}
-use lib.ListN.{length, length-append}
+use Rattle.std.specs.Prelude.{◌≡◌, refl, Bool, true, false, ◌||◌, cond, List, [], ◌∷◌, ◌++◌, map, ℕ, suc, ◌+◌, ◌<◌, T, length}
+use Rattle.std.proofs.Common.{sym, ap, ◌∙◌, subst, add-one, arith, length-append}
+use Rattle.std.proofs.lemmas.List.{map-append}
 use Rattle.rules.specs.Sets.{some, Every}
 use Rattle.rules.specs.Board.{Rows, Board, Closing, shut, tells, shut_all, Call, register, close, batch, spread, ready, mark, restore, release, reset, ask, refused, refusal, effect, taken, act, run}
 use Rattle.rules.specs.Board as rules

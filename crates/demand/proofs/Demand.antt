@@ -1,10 +1,8 @@
 -- Demand 3, word for word, about the board's public calls: any well-formed board, any accepted mark on it, and any sequence of calls from then on.
 -- Each call does as the rules say (`made-obeys`), so that a run of them is a chain, and what holds of every chain holds of it. No call brings a board
 -- from well formed to not (`call-well`), and none changes the ids, their order or their universes while a mark is open (`call-alike`).
-use mathlib.Core.Path.{◌≡◌, refl, sym, ap, ◌∙◌, subst}
-use mathlib.Core.Bool.{Bool, true, false}
-use mathlib.Core.List.{List, [], ◌∷◌, map}
-use Prim.Native.Nat.{ℕ, ◌+◌, ◌<◌}
+use Rattle.std.specs.Prelude.{◌≡◌, refl, Bool, true, false, List, [], ◌∷◌, map, ℕ, ◌+◌, ◌<◌}
+use Rattle.std.proofs.Common.{sym, ap, ◌∙◌, subst}
 use Rattle.rules.specs.Sets.{Every, Different}
 use Rattle.rules.specs.Board as rules
 use Rattle.rules.specs.Trial.{Way, Differs, Permits}

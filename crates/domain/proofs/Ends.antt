@@ -1,14 +1,9 @@
 -- How many values a mask stands for, and which are the first, the last and the only one. Assumes nothing.
-use mathlib.Core.Path.{◌≡◌, refl, sym, ap, ◌∙◌}
-use mathlib.Core.Bool.{Bool, true, false, not}
-use mathlib.Core.List.{List, [], ◌∷◌, ◌++◌, map, map-append}
-use Prim.Native.Nat.{ℕ, suc, ◌^◌}
-use native.Mathlib.Omega.{arith}
-use lib.Dec.{eqb}
-use lib.Count.{ones}
-use lib.ListN.{length, length-map}
-use lib.IntN.{ℤ, pos, ◌+ℤ◌}
-use borrow.Author.Tests.{eqb-true, eqb-false, eq-eqb, ne_eqb}
+use Rattle.std.specs.Prelude.{◌≡◌, refl, Bool, true, false, not, List, [], ◌∷◌, ◌++◌, map, ℕ, suc, ◌^◌, eqb, length, ℤ, pos, ◌+ℤ◌}
+use Rattle.std.specs.Int.Count.{ones}
+use Rattle.std.proofs.Common.{sym, ap, ◌∙◌, arith, eqb-true, eq-eqb, ne_eqb}
+use Rattle.std.proofs.lemmas.List.{map-append, length-map}
+use Rattle.std.proofs.lemmas.Bool.{eqb-false}
 use Rattle.mask.specs.Bit.{bit_minus, Lowest, Highest}
 use Rattle.mask.specs.Val.{val}
 use Rattle.mask.specs.Sets.{members, length-members, members-first, members-highest, none-of-ones, ones_none}

@@ -1,13 +1,6 @@
 -- A domain whose mask is replaced: what it then holds, and that it stays well formed. Assumes nothing.
-use mathlib.Core.Path.{◌≡◌, refl, sym, subst}
-use mathlib.Core.Bool.{Bool, true, false, ◌&&◌, cond}
-use Prim.Native.Nat.{ℕ, ◌^◌, ◌<◌}
-use native.Mathlib.Nat.{lt_of_lt_of_le}
-use native.Mathlib.Omega.{arith}
-use lib.Dec.{T, eqb, leb, ltb}
-use lib.Pow.{pow_mono}
-use lib.IntN.{ℤ, pos, ◌+ℤ◌, ◌-ℤ◌}
-use borrow.Author.Tests.{eqb-true, eq-eqb, lt-ltb}
+use Rattle.std.specs.Prelude.{◌≡◌, refl, Bool, true, false, ◌&&◌, cond, ℕ, ◌^◌, ◌<◌, T, eqb, leb, ltb, ℤ, pos, ◌+ℤ◌, ◌-ℤ◌}
+use Rattle.std.proofs.Common.{sym, subst, lt_of_lt_of_le, arith, pow_mono, eqb-true, eq-eqb, lt-ltb}
 use Rattle.mask.specs.Val.{val, offsets, mask_of, val-mask}
 use Rattle.mask.specs.Sets.{In, in-lt}
 use Rattle.mask.specs.Tests.{same_test}

@@ -1,15 +1,11 @@
 -- Values and offsets: what a mask's bits say of the set that it stands for, and which number a set has. Assumes nothing.
-use mathlib.Core.Path.{◌≡◌, refl, sym, ap, ◌∙◌, subst}
-use mathlib.Core.Bool.{Bool}
+use Rattle.std.specs.Prelude.{◌≡◌, refl, Bool, List, [], ◌∷◌, map, ◌⊎◌, ℕ, zero, suc, ◌+◌, ◌-◌, ◌^◌, ◌≤◌, ◌<◌, T, ℤ, pos, ◌+ℤ◌, ◌-ℤ◌}
+use Rattle.std.proofs.Common.{sym, ap, ◌∙◌, subst, inl, inr, ⊎_elim, zero-le, zero-add, le_refl, arith}
+use Rattle.std.proofs.Math.Nat.{sub-zero}
+use Rattle.std.proofs.Math.Decide.{ℕ_discrete}
+use Rattle.std.proofs.Math.IntN.{+ℤ_comm, +ℤ-neg_ℤ_cancel}
+use mathlib.Core.List.{Memᴰ}
 use mathlib.Core.List.Memᴰ
-use mathlib.Core.List.{List, [], ◌∷◌, map, Memᴰ}
-use mathlib.Core.Logic.{◌⊎◌, inl, inr, ⊎_elim}
-use Prim.Native.Nat.{ℕ, zero, suc, ◌+◌, ◌-◌, ◌^◌, ◌≤◌, ◌<◌, zero-le}
-use native.Mathlib.Nat.{zero-add, le_refl, sub-zero}
-use native.Mathlib.Omega.{arith}
-use native.Mathlib.Decide.{ℕ_discrete}
-use lib.Dec.{T}
-use lib.IntN.{ℤ, pos, ◌+ℤ◌, ◌-ℤ◌, +ℤ_comm, +ℤ-neg_ℤ_cancel}
 use Rattle.mask.specs.Val.{val}
 use Rattle.mask.specs.Sets.{In, in-none, in-or, in_one, same_set, members, members-in, in_members}
 use Rattle.mask.specs.declared.Mask.{Mask}
@@ -43,7 +39,7 @@ moved lo l = map (λ k. lo +ℤ pos k) l
 mem-moved : (lo : ℤ) (k : ℕ) (l : List ℕ) → Memᴰ k l → T (has (lo +ℤ pos k) (moved lo l))
 mem-moved lo k [] h = absurd (Memᴰ.not-nil h)
 mem-moved lo k (j ∷ l) h =
-    ⊎_elim (λ e. rw e (has-head (lo +ℤ pos j) (moved lo l))) (λ m. has-tail (lo +ℤ pos k) (lo +ℤ pos j) (moved lo l) (mem-moved lo k l m)) (Memᴰ.cases_cons h)
+    ⊎_elim (λ e. subst (λ (n : ℕ). T (has (lo +ℤ pos n) (moved lo (j ∷ l)))) (sym e) (has-head (lo +ℤ pos j) (moved lo l))) (λ m. has-tail (lo +ℤ pos k) (lo +ℤ pos j) (moved lo l) (mem-moved lo k l m)) (Memᴰ.cases_cons h)
 
 moved-mem : (lo x : ℤ) (l : List ℕ) → T (has x (moved lo l)) → (k : ℕ) × (x ≡ lo +ℤ pos k) × Memᴰ k l
 moved-mem lo x [] h = absurd h
@@ -86,7 +82,7 @@ in-stretch lo k zero j a b = absurd (omega arith)
 in-stretch lo k (suc n) j a b = go (ℕ_discrete j k) (λ h. in-stretch lo (suc k) n j h (omega arith))
   where
     go : Dec (j ≡ k) → (suc k ≤ j → T (has (lo +ℤ pos j) (stretch lo (suc k) n))) → T (has (lo +ℤ pos j) (stretch lo k (suc n)))
-    go (yes e) f = rw e (has-head (lo +ℤ pos k) (stretch lo (suc k) n))
+    go (yes e) f = subst (λ (i : ℕ). T (has (lo +ℤ pos i) (stretch lo k (suc n)))) (sym e) (has-head (lo +ℤ pos k) (stretch lo (suc k) n))
     go (no g) f = has-tail (lo +ℤ pos j) (lo +ℤ pos k) (stretch lo (suc k) n) (f (omega arith))
 
 pub stretch-offset : (lo : ℤ) (k n : ℕ) (x : ℤ) → T (has x (stretch lo k n)) → (j : ℕ) × (x ≡ lo +ℤ pos j) × (k ≤ j) × (j < k + n)

@@ -1,14 +1,9 @@
 -- Which number the mask has after a change: each of these is a change of bits on the left and of the set on the right. Assumes nothing.
-use mathlib.Core.Path.{◌≡◌, refl, sym, ap, ◌∙◌}
-use mathlib.Core.Bool.{true, false, not, ◌||◌, true≢false}
-use mathlib.Core.List.{[]}
-use mathlib.Core.Logic.{◌⊎◌, inl, inr, ⊎_elim}
-use Prim.Native.Nat.{ℕ, ◌+◌, ◌-◌, ◌^◌, ◌<◌}
-use lib.Dec.{T, ltb, T_not, not_T}
-use lib.Bits.{bit_and, bit_or}
-use lib.IntN.{ℤ, pos, ◌+ℤ◌, ◌-ℤ◌}
-use lib.Signed.{le_z}
-use borrow.Author.Tests.{ltb-true, lt-ltb}
+use Rattle.std.specs.Prelude.{◌≡◌, refl, true, false, not, ◌||◌, [], ◌⊎◌, ℕ, ◌+◌, ◌-◌, ◌^◌, ◌<◌, T, ltb, ℤ, pos, ◌+ℤ◌, ◌-ℤ◌}
+use Rattle.std.specs.Int.Bits.{bit_and, bit_or}
+use Rattle.std.specs.Int.Signed.{le_z}
+use Rattle.std.proofs.Common.{sym, ap, ◌∙◌, true≢false, inl, inr, ⊎_elim, T_not, ltb-true, lt-ltb}
+use lib.Dec.{not_T}
 use Rattle.mask.specs.Bit.{bit_minus}
 use Rattle.mask.specs.Val.{val}
 use Rattle.mask.specs.Sets.{In, in-none, in_and, in-minus, in_one, in-with, in_without, in-first}

@@ -1,12 +1,7 @@
 -- Where the values of a well-formed domain stand, and when a domain with another mask is `holding` some set. Assumes nothing.
-use mathlib.Core.Path.{◌≡◌, refl, sym, ap, ◌∙◌, subst}
-use mathlib.Core.Bool.{Bool, true, false, ◌&&◌, cond, true≢false}
-use Prim.Native.Nat.{ℕ, ◌+◌, ◌-◌, ◌^◌, ◌≤◌, ◌<◌}
-use native.Mathlib.Omega.{arith}
-use lib.Dec.{T, eqb, leb, ltb}
-use lib.IntN.{pos, ◌+ℤ◌}
-use lib.Signed.{le_z}
-use borrow.Author.Tests.{eqb-true, leb-true, ltb-true, ltb-false, lt-ltb, eq-eqb, ne_eqb}
+use Rattle.std.specs.Prelude.{◌≡◌, refl, Bool, true, false, ◌&&◌, cond, ℕ, ◌+◌, ◌-◌, ◌^◌, ◌≤◌, ◌<◌, T, eqb, leb, ltb, pos, ◌+ℤ◌}
+use Rattle.std.specs.Int.Signed.{le_z}
+use Rattle.std.proofs.Common.{sym, ap, ◌∙◌, subst, true≢false, arith, eqb-true, leb-true, ltb-true, ltb-false, lt-ltb, eq-eqb, ne_eqb}
 use Rattle.mask.specs.Bit.{bit}
 use Rattle.mask.specs.Val.{val, offsets, Fit, mask-eq}
 use Rattle.mask.specs.Sets.{In, in-lt}

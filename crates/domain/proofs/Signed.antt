@@ -1,13 +1,8 @@
 -- What is left of a signed number's way through a field or an argument, and the test of two for being the same. Assumes nothing.
-use mathlib.Core.Path.{◌≡◌, refl, sym, ap, ◌∙◌}
-use mathlib.Core.Bool.{Bool, true, false, true≢false}
-use lib.Dec.{eqb}
-use lib.IntN.{ℤ}
-use mir.Syntax.{w32}
-use mir.Val.{SFits, to_z, of_z}
-use mir.Facts.{to_z-of_z}
-use borrow.Author.Tests.{eq-eqb, eqb-true}
-use lib.Signed.{lt_z}
+use Rattle.std.specs.Prelude.{◌≡◌, refl, Bool, true, false, eqb, ℤ}
+use Rattle.std.specs.Int.{w32}
+use Rattle.std.specs.Int.Signed.{lt_z}
+use Rattle.std.proofs.Common.{sym, ap, ◌∙◌, true≢false, SFits, to_z, of_z, to_z-of_z, eq-eqb, eqb-true}
 use Rattle.rules.specs.declared.Value.{Value}
 use Rattle.domain.specs.Calls.{ordered, narrow}
 use Rattle.rules.specs.Sets.{same}

@@ -1,16 +1,7 @@
 -- What the calls do to the set that a domain holds, in the words of the rules. Assumes nothing.
-use mathlib.Core.Path.{◌≡◌, refl, sym, ap, ◌∙◌, subst}
-use mathlib.Core.Bool.{Bool, true, false, not, ◌||◌, cond}
-use mathlib.Core.List.{List, [], ◌∷◌, map}
-use mathlib.Core.Logic.{⊎_elim}
-use Prim.Native.Nat.{ℕ, zero, suc, ◌+◌, ◌-◌, ◌^◌, ◌≤◌, ◌<◌}
-use native.Mathlib.Nat.{lt_of_lt_of_le}
-use native.Mathlib.Omega.{arith}
-use lib.Pow.{pow_mono, pow_pos}
-use lib.Dec.{T, leb}
-use lib.IntN.{ℤ, pos, ◌+ℤ◌, ◌-ℤ◌}
-use lib.Signed.{lt_z}
-use borrow.Author.Tests.{ne_eqb, lt-ltb, leb-true}
+use Rattle.std.specs.Prelude.{◌≡◌, refl, Bool, true, false, not, ◌||◌, cond, List, [], ◌∷◌, map, ℕ, zero, suc, ◌+◌, ◌-◌, ◌^◌, ◌≤◌, ◌<◌, T, leb, ℤ, pos, ◌+ℤ◌, ◌-ℤ◌}
+use Rattle.std.specs.Int.Signed.{lt_z}
+use Rattle.std.proofs.Common.{sym, ap, ◌∙◌, subst, ⊎_elim, lt_of_lt_of_le, arith, pow_mono, pow_pos, ne_eqb, lt-ltb, leb-true}
 use Rattle.mask.specs.Val.{val, offsets, mask_of, Fit, mask-fit, val-mask, mask-val}
 use Rattle.mask.specs.Sets.{In, members, members-ascend, members-none, Ascends, fits_in, same_set}
 use Rattle.mask.specs.declared.Mask.{Mask}

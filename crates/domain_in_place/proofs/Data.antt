@@ -1,5 +1,5 @@
 -- The types of the calls, as the laws of `in_place` take them. Assumes nothing.
-use mathlib.Core.Path.{refl}
+use Rattle.std.specs.Prelude.{refl}
 use Rattle.in_place.proofs.PlainData.{Kind, struct_kind, enum_kind, Two, two}
 use Rattle.domain_in_place.specs.Behind.{changed, narrowed}
 use Rattle.rules.specs.contracts.Value as Val

@@ -1,8 +1,5 @@
 -- Worked examples: of a few values, and on both sides of offset 64, where the mask's first word ends. Assumes nothing.
-use mathlib.Core.Path.{◌≡◌, refl}
-use mathlib.Core.Bool.{true, false}
-use Prim.Native.Nat.{ℕ, ◌^◌}
-use lib.IntN.{ℤ, pos, negsuc}
+use Rattle.std.specs.Prelude.{◌≡◌, refl, true, false, ℕ, ◌^◌, ℤ, pos, negsuc}
 use Rattle.mask.specs.Val.{val, mask_of}
 use Rattle.mask.specs.Sets.{members_from, members_in}
 use Rattle.offset.specs.Places.{span_of}

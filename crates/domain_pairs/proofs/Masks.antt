@@ -1,15 +1,10 @@
 -- What the operations on masks do to the sets that the masks stand for, over a universe that starts at lo. Assumes nothing.
-use mathlib.Core.Path.{◌≡◌, refl, sym, ap, ◌∙◌, subst}
-use mathlib.Core.Bool.{Bool, true, false, not, ◌&&◌, ◌||◌}
-use mathlib.Core.List.{[], ◌∷◌}
-use mathlib.Core.Logic.{◌⊎◌, inl, inr, ⊎_elim}
-use Prim.Native.Nat.{ℕ, ◌^◌, ◌<◌}
-use lib.Dec.{T, eqb, T_not, not_T}
-use lib.Bits.{bit_and, bit_or}
-use lib.Count.{ones}
-use lib.ListN.{length, length-map}
-use lib.IntN.{ℤ, pos, ◌+ℤ◌}
-use borrow.Author.Tests.{eqb-true, eq-eqb, ne_eqb}
+use Rattle.std.specs.Prelude.{◌≡◌, refl, Bool, true, false, not, ◌&&◌, ◌||◌, [], ◌∷◌, ◌⊎◌, ℕ, ◌^◌, ◌<◌, T, eqb, length, ℤ, pos, ◌+ℤ◌}
+use Rattle.std.specs.Int.Bits.{bit_and, bit_or}
+use Rattle.std.specs.Int.Count.{ones}
+use Rattle.std.proofs.Common.{sym, ap, ◌∙◌, subst, inl, inr, ⊎_elim, T_not, eqb-true, eq-eqb, ne_eqb}
+use Rattle.std.proofs.lemmas.List.{length-map}
+use lib.Dec.{not_T}
 use Rattle.mask.specs.Bit.{bit_minus}
 use Rattle.mask.specs.Val.{val}
 use Rattle.mask.specs.Sets.{In, in_and, in-or, in-minus, in-lt, same_set, subset, members, length-members}

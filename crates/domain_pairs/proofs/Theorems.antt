@@ -1,14 +1,8 @@
 -- What the calls mean for the sets that the domains hold, that their results are well formed, and that what was saved comes back.
 -- Assumes nothing.
-use mathlib.Core.Path.{◌≡◌, refl, sym, ap, ◌∙◌, subst}
-use mathlib.Core.Bool.{Bool, true, false, not, ◌&&◌, ◌||◌, cond}
-use mathlib.Core.Logic.{◌⊎◌, ⊎_elim, ◌↔◌}
-use Prim.Native.Nat.{ℕ, ◌^◌, ◌<◌}
-use native.Mathlib.Omega.{arith}
-use lib.Dec.{T, ltb→lt}
-use lib.Bits.{bit_and, bit_or}
-use lib.IntN.{ℤ}
-use borrow.Author.Tests.{eqb-true, lt-ltb}
+use Rattle.std.specs.Prelude.{◌≡◌, refl, Bool, true, false, not, ◌&&◌, ◌||◌, cond, ◌⊎◌, ◌↔◌, ℕ, ◌^◌, ◌<◌, T, ℤ}
+use Rattle.std.specs.Int.Bits.{bit_and, bit_or}
+use Rattle.std.proofs.Common.{sym, ap, ◌∙◌, subst, ⊎_elim, arith, ltb→lt, eqb-true, lt-ltb}
 use Rattle.mask.specs.Val.{val, mask_of, Fit, mask-val}
 use Rattle.mask.specs.Sets.{and_below, or-below, minus-below}
 use Rattle.mask.specs.declared.Mask.{Mask}

@@ -1,9 +1,7 @@
 -- Two well-formed domains over the same universe: what the operations on their masks give, in the words of the calls. Assumes nothing.
-use mathlib.Core.Path.{◌≡◌, sym, ap, ◌∙◌, subst}
-use mathlib.Core.Bool.{true, ◌&&◌, ◌||◌}
-use Prim.Native.Nat.{ℕ, ◌^◌, ◌<◌}
-use lib.Dec.{eqb}
-use lib.Bits.{bit_and, bit_or}
+use Rattle.std.specs.Prelude.{◌≡◌, true, ◌&&◌, ◌||◌, ℕ, ◌^◌, ◌<◌, eqb}
+use Rattle.std.specs.Int.Bits.{bit_and, bit_or}
+use Rattle.std.proofs.Common.{sym, ap, ◌∙◌, subst}
 use Rattle.mask.specs.Val.{val}
 use Rattle.offset.specs.Places.{span_of}
 use Rattle.rules.specs.Sets.{Chutes, same, has, keep}

@@ -1,7 +1,5 @@
 -- The definitions, run. Assumes nothing.
-use mathlib.Core.Path.{◌≡◌, refl}
-use mathlib.Core.List.{[], ◌∷◌}
-use lib.IntN.{pos, negsuc}
+use Rattle.std.specs.Prelude.{◌≡◌, refl, [], ◌∷◌, pos, negsuc}
 use Rattle.decimal.specs.Decimal.{digits, natural, decimal}
 use Rattle.mask.specs.Val.{val}
 use Rattle.mask.specs.Sets.{members_in, members_from}

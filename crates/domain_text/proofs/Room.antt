@@ -1,13 +1,7 @@
 -- How long a text can be: a caller who lends this many bytes always has room. Assumes nothing.
-use mathlib.Core.Path.{◌≡◌, refl, sym, ap, ◌∙◌}
-use mathlib.Core.Bool.{Bool, true, cond}
-use mathlib.Core.List.{List}
-use Prim.Native.Nat.{ℕ, ◌≤◌}
-use native.Mathlib.Omega.{arith}
-use lib.IntN.{ℤ}
-use lib.ListN.{length}
-use mir.Syntax.{w32}
-use mir.Val.{SFits}
+use Rattle.std.specs.Prelude.{◌≡◌, refl, Bool, true, cond, List, ℕ, ◌≤◌, ℤ, length}
+use Rattle.std.specs.Int.{w32}
+use Rattle.std.proofs.Common.{sym, ap, ◌∙◌, arith, SFits}
 use Rattle.mask.specs.Val.{Fit}
 use Rattle.mask.specs.declared.Mask.{Mask}
 use Rattle.rules.specs.declared.Refusal.TheVariants.{Broken}

@@ -1,13 +1,7 @@
 -- Runs and lists of values, one value at a time, and how many bytes they take. Assumes nothing.
-use mathlib.Core.Path.{◌≡◌, refl, sym, ap, ap₂, ◌∙◌, subst}
-use mathlib.Core.Bool.{Bool, true, false, cond}
-use mathlib.Core.List.{[], ◌∷◌, ◌++◌}
-use Prim.Native.Nat.{ℕ, zero, suc, ◌+◌, ◌-◌, ◌≤◌}
-use native.Mathlib.Omega.{arith}
-use lib.Dec.{T}
-use lib.IntN.{ℤ, pos, ◌+ℤ◌, +ℤ_assoc, pos-+ℤ-pos}
-use lib.ListN.{length, take, drop, length-append, length-drop}
-use lib.Seq.{length-take-le}
+use Rattle.std.specs.Prelude.{◌≡◌, refl, Bool, true, false, cond, [], ◌∷◌, ◌++◌, ℕ, zero, suc, ◌+◌, ◌-◌, ◌≤◌, T, ℤ, pos, ◌+ℤ◌, length, take, drop}
+use Rattle.std.proofs.Common.{sym, ap, ap₂, ◌∙◌, subst, arith, length-append, length-drop, length-take-le}
+use lib.IntN.{+ℤ_assoc, pos-+ℤ-pos}
 use Rattle.decimal.specs.Decimal.{decimal}
 use Rattle.offset.specs.Universe.{value_inj}
 use Rattle.rules.specs.Sets.{Chutes, same}

@@ -1,18 +1,12 @@
 -- The values of a mask, one at a time from the lowest. Assumes nothing.
-use mathlib.Core.Path.{◌≡◌, refl, sym, ap, ◌∙◌, subst}
-use mathlib.Core.Bool.{Bool, true, false}
-use mathlib.Core.List.{List, [], ◌∷◌, map, Memᴰ}
-use Prim.Native.Nat.{ℕ, ◌-◌, ◌*◌, ◌^◌, ◌≤◌, ◌<◌, suc-le-suc}
-use native.Mathlib.Nat.{zero-add, sub-zero}
-use native.Mathlib.Omega.{arith}
-use lib.Count.{ones-le}
-use lib.Dec.{eqb}
-use lib.IntN.{ℤ, pos, ◌+ℤ◌}
-use lib.ListN.{length}
+use Rattle.std.specs.Prelude.{◌≡◌, refl, Bool, true, false, List, [], ◌∷◌, map, ℕ, ◌-◌, ◌*◌, ◌^◌, ◌≤◌, ◌<◌, eqb, ℤ, pos, ◌+ℤ◌, length}
+use Rattle.std.specs.Int.{w32, w64}
+use Rattle.std.proofs.Common.{sym, ap, ◌∙◌, subst, suc-le-suc, zero-add, arith, SFits, to_z, of_z, eqb-true}
+use Rattle.std.proofs.Math.Nat.{sub-zero}
+use Rattle.std.proofs.lemmas.Nat.{ones-le}
+use Rattle.std.proofs.lemmas.Bool.{eqb-false}
+use mathlib.Core.List.{Memᴰ}
 use lib.Signed.{nat_abs-le}
-use mir.Syntax.{w32, w64}
-use mir.Val.{SFits, to_z, of_z}
-use borrow.Author.Tests.{eqb-true, eqb-false}
 use Rattle.decimal.specs.Decimal.{decimal}
 use Rattle.decimal.proofs.Digits.{decimal-few}
 use Rattle.mask.specs.Bit.{bit_minus, Lowest}

@@ -1,20 +1,12 @@
 -- What the calls promise together: a walk yields exactly the values, `to_vec` writes them in front, and a domain made from values holds
 -- exactly those. `Fit` and `SFits` hold of whatever a program holds: each word is a word, each bound an i32. Assumes nothing.
-use mathlib.Core.Path.{◌≡◌, refl, sym, ap, ◌∙◌, subst}
-use mathlib.Core.Bool.{Bool, true, false, cond}
-use mathlib.Core.List.{List, [], ◌∷◌, ◌++◌}
-use Prim.Native.Nat.{ℕ, zero, suc, ◌+◌, ◌^◌, ◌≤◌, ◌<◌}
-use native.Mathlib.Nat.{lt_of_lt_of_le}
-use native.Mathlib.Omega.{arith}
-use lib.Dec.{T, ltb, le→leb}
-use lib.IntN.{ℤ, pos, negsuc, ◌+ℤ◌, ◌-ℤ◌, +ℤ_assoc}
-use lib.ListN.{length, take, drop}
-use lib.Pow.{pow_mono, pow_pos}
+use Rattle.std.specs.Prelude.{◌≡◌, refl, Bool, true, false, cond, List, [], ◌∷◌, ◌++◌, ℕ, zero, suc, ◌+◌, ◌^◌, ◌≤◌, ◌<◌, T, ltb, ℤ, pos, negsuc, ◌+ℤ◌, ◌-ℤ◌, length, take, drop}
+use Rattle.std.specs.Int.Signed.{lt_z, le_z}
+use Rattle.std.specs.Int.{w32}
+use Rattle.std.proofs.Common.{sym, ap, ◌∙◌, subst, lt_of_lt_of_le, arith, le→leb, pow_mono, pow_pos, SFits, lt-ltb, le-ltb, ltb-false, le-leb, leb-true, ne_eqb}
+use Rattle.std.proofs.lemmas.Bool.{lt-leb}
+use lib.IntN.{+ℤ_assoc}
 use lib.Seq.{take-length, drop-length, take-append_seam, drop-append_seam, drop-nil, take-nil}
-use lib.Signed.{lt_z, le_z}
-use mir.Syntax.{w32}
-use mir.Val.{SFits}
-use borrow.Author.Tests.{lt-ltb, le-ltb, ltb-false, le-leb, lt-leb, leb-true, ne_eqb}
 use Rattle.mask.specs.Bit.{bit_minus, has-lowest, pos-of-ne}
 use Rattle.mask.specs.Val.{val, offsets, Fit, val-lt, mask_of, mask-fit, val-mask}
 use Rattle.mask.specs.Sets.{In, fits_in, minus-below}

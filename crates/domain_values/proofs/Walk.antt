@@ -1,16 +1,9 @@
 -- A mask's values one by one: the lowest offset's comes first, and the rest are those of the mask without it. Assumes nothing.
-use mathlib.Core.Path.{◌≡◌, sym, ap, ◌∙◌}
-use mathlib.Core.Bool.{Bool, true}
-use Prim.Native.Nat.{ℕ, ◌^◌, ◌≤◌, ◌<◌}
-use native.Mathlib.Nat.{lt_of_lt_of_le}
-use native.Mathlib.Omega.{arith}
-use lib.Dec.{T, ltb}
-use lib.IntN.{ℤ, pos, ◌+ℤ◌, +ℤ_comm}
-use lib.Pow.{pow_mono}
-use lib.Signed.{le_z}
-use mir.Syntax.{w32}
-use mir.Val.{SFits}
-use borrow.Author.Tests.{lt-ltb, ltb-true}
+use Rattle.std.specs.Prelude.{◌≡◌, Bool, true, ℕ, ◌^◌, ◌≤◌, ◌<◌, T, ltb, ℤ, pos, ◌+ℤ◌}
+use Rattle.std.specs.Int.Signed.{le_z}
+use Rattle.std.specs.Int.{w32}
+use Rattle.std.proofs.Common.{sym, ap, ◌∙◌, lt_of_lt_of_le, arith, pow_mono, SFits, lt-ltb, ltb-true}
+use Rattle.std.proofs.Math.IntN.{+ℤ_comm}
 use Rattle.mask.specs.Bit.{bit_minus, Lowest}
 use Rattle.mask.specs.Val.{val, offsets, Fit, val-lt, mask-eq}
 use Rattle.mask.specs.Sets.{In, fits_in}

@@ -1,19 +1,8 @@
 -- The first of some values, as a loop finds it, and that it stands before all others. Assumes nothing.
-use mathlib.Core.Path.{◌≡◌, refl, sym, ap, ◌∙◌}
-use mathlib.Core.Bool.{Bool, true, false, not, cond}
-use mathlib.Core.List.{List, [], ◌∷◌}
-use mathlib.Core.Logic.{◌⊎◌, inl, inr, ⊎_elim}
-use Prim.Native.Nat.{ℕ, ◌+◌, ◌≤◌, ◌<◌}
-use native.Mathlib.Numerals.{add-one}
-use native.Mathlib.Omega.{arith}
-use lib.Dec.{T}
-use lib.IntN.{ℤ, pos}
-use lib.ListN.{length, get_or, drop, drop_of_length-le}
-use lib.Seq.{drop-cons}
-use lib.Signed.{lt_z, le_z}
-use mir.Syntax.{w32}
-use mir.Val.{SFits, to_z, of_z}
-use mir.Facts.{to_z-of_z}
+use Rattle.std.specs.Prelude.{◌≡◌, refl, Bool, true, false, not, cond, List, [], ◌∷◌, ◌⊎◌, ℕ, ◌+◌, ◌≤◌, ◌<◌, T, ℤ, pos, length, get_or, drop}
+use Rattle.std.specs.Int.Signed.{lt_z, le_z}
+use Rattle.std.specs.Int.{w32}
+use Rattle.std.proofs.Common.{subst, sym, ap, ◌∙◌, inl, inr, ⊎_elim, add-one, arith, drop_of_length-le, drop-cons, SFits, to_z, of_z, to_z-of_z}
 use Rattle.rules.specs.Sets.{has}
 use Rattle.rules.proofs.SetLaws.{has-cons, has-head, has-tail}
 use Rattle.rules.proofs.InOrder.{most-refl, most-trans, less-le, not-less}
@@ -67,7 +56,7 @@ first-in before x (z ∷ s) = go (before z x) (first-in before (cond (before z x
   where
     go : (b : Bool) → T (has (first before (cond b z x) s) (cond b z x ∷ s)) → T (has (first before (cond b z x) s) (x ∷ z ∷ s))
     go true h = has-tail (first before z s) x (z ∷ s) h
-    go false h = ⊎_elim (λ e. rw e (has-head x (z ∷ s))) (λ m. has-tail (first before x s) x (z ∷ s) (has-tail (first before x s) z s m)) (has-cons (first before x s) x s h)
+    go false h = ⊎_elim (λ e. subst (λ (v : ℤ). T (has v (x ∷ z ∷ s))) (sym e) (has-head x (z ∷ s))) (λ m. has-tail (first before x s) x (z ∷ s) (has-tail (first before x s) z s m)) (has-cons (first before x s) x s h)
 
 -- ---- the order of ℤ
 

@@ -4,10 +4,9 @@
 --     ByValue, Behind                  the same as triples: all that a caller knows of its callee
 --     Holds, HoldsBehind, as-stated    the clauses that a program states follow from what is told, so a run that tells it meets them
 -- `as-stated` assumes `Logic`. All else assumes nothing.
-use mathlib.Core.Path.{◌≡◌}
-use mathlib.Core.List.{List, [], ◌∷◌}
-use seplogic.Ra.Ura.{Ura}
+use Rattle.std.specs.Prelude.{◌≡◌, List, [], ◌∷◌}
 use mir.Val.{Val}
+use seplogic.Ra.Ura.{Ura}
 use base.Logic.{SProp, ent, emp, id⊢, via, mono_r}
 use prog.Memory.{Memory}
 use prog.Routine.{Routine}

@@ -2,13 +2,12 @@
 -- number of further parameters, and any callee that meets the contract through a reference. The proof goes through the function's MIR by hand, and
 -- is written, as in Thin: a lifetime is made, a local is lent for it by `&mut`, the callee is called, the lifetime is ended, and the local is back
 -- at the last value that the contract says; it and the answer are the result. Assumes nothing.
-use mathlib.Core.Path.{◌≡◌, refl, ◌∙◌, ap, subst}
-use mathlib.Core.List.{[], ◌∷◌, List}
-use Prim.Native.Nat.{ℕ, suc}
-use seplogic.Ra.Ura.{Ura}
-use seplogic.Ra.TreeShare.{full_share}
+use Rattle.std.specs.Prelude.{◌≡◌, refl, [], ◌∷◌, List, ℕ, suc}
+use Rattle.std.proofs.Common.{◌∙◌, ap, subst}
 use mir.Syntax.{Name, Fn, Ty, ty_ref, mut, local, value_local, memory_slot, seq, assign, call, return, place, rv_opd, addr_of, aggregate, copy, named, erased}
 use mir.Val.{Val, vptr}
+use seplogic.Ra.Ura.{Ura}
+use seplogic.Ra.TreeShare.{full_share}
 use base.Logic.{SProp, ent, emp, via, fst∗, guard, id⊢}
 use base.Fml.{GName, ftrue, fat, fsep, flft, flent}
 use prog.Model.{Model}

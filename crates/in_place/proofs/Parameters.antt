@@ -12,13 +12,12 @@
 --     operands, reads_all  the operands of a call that passes them on, the first being the local k
 --     found                a local that lies after them
 -- The steps assume `Logic`. All else assumes nothing.
-use mathlib.Core.Path.{◌≡◌, refl, sym, subst}
-use mathlib.Core.List.{List, [], ◌∷◌}
-use Prim.Native.Nat.{ℕ, zero, suc}
-use seplogic.Ra.Ura.{Ura}
-use seplogic.Ra.TreeShare.{full_share}
+use Rattle.std.specs.Prelude.{◌≡◌, refl, List, [], ◌∷◌, ℕ, zero, suc}
+use Rattle.std.proofs.Common.{sym, subst}
 use mir.Syntax.{Ty, Local, local, value_local, Opd as Operand, copy, place, Step as PStep}
 use mir.Val.{Val}
+use seplogic.Ra.Ura.{Ura}
+use seplogic.Ra.TreeShare.{full_share}
 use base.Logic.{SProp, ent, emp, sep, wand, ex, id⊢, via, comm∗, mono_r, wand_i, ex_i}
 use base.Fml.{Share, ftrue, fat, froom, fdies}
 use prog.Wp.{Heap, Env, Spot, spot_of}

@@ -6,11 +6,11 @@
 --     struct_kind, enum_kind, two     the kind of a declared struct, of a declared enum, and the struct that holds the two. At a type of a program the
 --                              row that they give is the type's own, by computation
 -- `typed` assumes `Logic`. All else assumes nothing.
-use mathlib.Core.Path.{◌≡◌, refl, sym, ◌∙◌, subst}
-use mathlib.Core.List.{List, [], ◌∷◌, ◌++◌}
-use seplogic.Ra.Ura.{Ura}
+use Rattle.std.specs.Prelude.{◌≡◌, refl, List, [], ◌∷◌, ◌++◌}
+use Rattle.std.proofs.Common.{sym, ◌∙◌, subst}
 use mir.Syntax.{Sym, Ty, ty_struct, tcons, tnil, Lifetime, Written}
 use mir.Val.{Val, vstruct, of_list}
+use seplogic.Ra.Ura.{Ura}
 use base.Stored.{Coded}
 use base.Fml.{Fml}
 use types.Logic.{Logic}

@@ -5,13 +5,13 @@
 --
 -- The steps of `walk` name the entries of their context by number, from 0 at its head. A comment in brackets lists them as they stand there, with
 -- … for one that nothing needs before the locals are freed. Assumes nothing.
-use mathlib.Core.Path.{◌≡◌, refl, ◌∙◌, ap}
-use mathlib.Core.List.{[], ◌∷◌, List}
-use Prim.Native.Nat.{ℕ, suc}
+use Rattle.std.specs.Prelude.{◌≡◌, refl, [], ◌∷◌, List, ℕ, suc}
+use Rattle.std.proofs.Common.{◌∙◌, ap}
+use Rattle.std.proofs.Math.Pow.{field}
+use mir.Syntax.{Name, Fn, Ty, ty_ref, mut, local, value_local, seq, assign, call, return, place, rv_opd, copy, deref, named}
+use mir.Val.{Val, vptr}
 use seplogic.Ra.Ura.{Ura}
 use seplogic.Ra.TreeShare.{full_share}
-use mir.Syntax.{Name, Fn, Ty, ty_ref, mut, local, value_local, seq, assign, call, return, place, rv_opd, copy, deref, field, named}
-use mir.Val.{Val, vptr}
 use base.Logic.{SProp, ent, emp, via, fst∗, snd∗, ex_e, id⊢}
 use base.Fml.{GName, Lft, Share, ftrue, fat, flft, fobs, fbor}
 use prog.Model.{Model}

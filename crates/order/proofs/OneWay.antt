@@ -1,16 +1,8 @@
 -- Two orderings are inverse if each number below n leads back to itself through the first: n numbers below n that all differ leave none out.
 -- Assumes nothing.
-use mathlib.Core.Path.{◌≡◌, refl, sym, ap, ◌∙◌}
-use mathlib.Core.Logic.{◌≢◌, ⊎_elim}
-use mathlib.Core.Bool.{Bool, true, false}
-use mathlib.Core.List.{List}
-use Prim.Native.Nat.{ℕ, zero, suc, ◌+◌, ◌-◌, ◌<◌}
-use native.Mathlib.Decide.{ℕ_discrete}
-use native.Mathlib.Nat.{eq-or-lt_of_le}
-use native.Mathlib.Omega.{arith}
-use lib.Dec.{ltb}
-use lib.ListN.{get_or}
-use borrow.Author.Tests.{ltb-true, ltb-false}
+use Rattle.std.specs.Prelude.{◌≡◌, refl, ◌≢◌, Bool, true, false, List, ℕ, zero, suc, ◌+◌, ◌-◌, ◌<◌, ltb, get_or}
+use Rattle.std.proofs.Common.{sym, ap, ◌∙◌, ⊎_elim, eq-or-lt_of_le, arith, ltb-true, ltb-false}
+use Rattle.std.proofs.Math.Decide.{ℕ_discrete}
 use Rattle.order.specs.Order.{Inverse, inverse_b}
 use Rattle.order.proofs.Orders.{of-inverse}
 

@@ -1,16 +1,8 @@
 -- Every answer of an exported call of the board has room in its code, so that `told_by` reads it back: a list that is looked at has at most 64 ids
 -- and a batch at most 256 closings, so no place and no count comes near 2 ^ 56. Assumes nothing.
-use mathlib.Core.Path.{◌≡◌, refl, ap}
-use mathlib.Core.Bool.{Bool, true, false, not, cond}
-use mathlib.Core.List.{List, [], ◌∷◌, ◌++◌, map}
-use Prim.Native.Nat.{ℕ, zero, suc, ◌+◌, ◌≤◌, ◌<◌, ◌^◌}
-use native.Mathlib.Omega.{arith}
-use lib.Dec.{eqb, leb, ltb}
-use lib.IntN.{ℤ}
-use lib.ListN.{length, drop}
-use mir.Syntax.{w32}
-use mir.Val.{SFits}
-use borrow.Author.Tests.{leb-true, ltb-true}
+use Rattle.std.specs.Prelude.{◌≡◌, refl, Bool, true, false, not, cond, List, [], ◌∷◌, ◌++◌, map, ℕ, zero, suc, ◌+◌, ◌≤◌, ◌<◌, ◌^◌, eqb, leb, ltb, ℤ, length, drop}
+use Rattle.std.specs.Int.{w32}
+use Rattle.std.proofs.Common.{ap, arith, SFits, leb-true, ltb-true}
 use Rattle.rules.specs.Board as rules
 use Rattle.rules.specs.Pass.{pass}
 use Rattle.rules.specs.Sets.{Chutes, every, some}

@@ -1,9 +1,5 @@
 -- Each by-value call hands a board that isn't well formed back as it came, and refuses it by number 1. Assumes nothing.
-use mathlib.Core.Path.{◌≡◌}
-use mathlib.Core.Bool.{false}
-use mathlib.Core.List.{List}
-use Prim.Native.Nat.{ℕ}
-use lib.IntN.{ℤ}
+use Rattle.std.specs.Prelude.{◌≡◌, false, List, ℕ, ℤ}
 use Rattle.rules.specs.Board as rules
 use Rattle.rules.specs.declared.Refusal.TheVariants.{Broken}
 use Rattle.board.specs.Well.{well_board}

@@ -1,15 +1,8 @@
 -- Every answer of an exported call has room in its code, so that `told_by` reads it back: no refusal names a place, a domain holds at most 128
 -- values, its text has at most 1,538 bytes, and a value is an i32. Assumes nothing.
-use mathlib.Core.Path.{◌≡◌, refl}
-use mathlib.Core.Bool.{Bool, true, false, not, cond, ◌&&◌}
-use mathlib.Core.List.{List, [], ◌∷◌, ◌++◌}
-use Prim.Native.Nat.{ℕ}
-use native.Mathlib.Omega.{arith}
-use lib.Dec.{T, leb, ltb}
-use lib.IntN.{ℤ}
-use lib.ListN.{length, drop}
-use mir.Syntax.{w32}
-use mir.Val.{SFits}
+use Rattle.std.specs.Prelude.{◌≡◌, refl, Bool, true, false, not, cond, ◌&&◌, List, [], ◌∷◌, ◌++◌, ℕ, T, leb, ltb, ℤ, length, drop}
+use Rattle.std.specs.Int.{w32}
+use Rattle.std.proofs.Common.{arith, SFits}
 use Rattle.rules.specs.Board as rules
 use Rattle.rules.specs.Sets.{Chutes, has}
 use Rattle.rules.specs.declared.Refusal.TheVariants.{Broken, Empty, NoRoom}

@@ -1,11 +1,6 @@
 -- The length of a sheet's text has room in the code: no text has more than 2,816 bytes. Assumes nothing.
-use mathlib.Core.Path.{◌≡◌}
-use mathlib.Core.Bool.{Bool, true, false, cond}
-use mathlib.Core.List.{List, ◌++◌}
-use Prim.Native.Nat.{ℕ}
-use native.Mathlib.Omega.{arith}
-use lib.Dec.{leb}
-use lib.ListN.{length, drop}
+use Rattle.std.specs.Prelude.{◌≡◌, Bool, true, false, cond, List, ◌++◌, ℕ, leb, length, drop}
+use Rattle.std.proofs.Common.{arith}
 use Rattle.rules.specs.declared.Refusal.TheVariants.{NoRoom}
 use Rattle.domain.specs.declared.Counted.TheVariants as counted
 use Rattle.domain_text.specs.Text.{Written, refuses}

@@ -1,18 +1,10 @@
 -- Every answer of an exported call has room in its code, so that `told_by` reads it back: no refusal names a place, a set holds at most 4,096
 -- values, its text has at most 12 bytes for each value of the universe and 3 more, and a value is an i32. Assumes nothing.
-use mathlib.Core.Path.{◌≡◌, refl, subst}
-use mathlib.Core.Bool.{Bool, true, false, cond, ◌&&◌}
-use mathlib.Core.List.{List, [], ◌∷◌, ◌++◌}
-use Prim.Native.Nat.{ℕ, zero, suc, ◌*◌, ◌^◌, ◌≤◌, ◌<◌}
-use native.Mathlib.Nat.{le_refl}
-use native.Mathlib.Omega.{arith}
-use lib.Dec.{eqb, leb, ltb}
-use lib.IntN.{ℤ, pos, ◌+ℤ◌, ◌-ℤ◌}
-use lib.ListN.{length, get_or, drop, length-append}
-use lib.Signed.{lt_z}
-use borrow.Author.Tests.{eqb-false}
-use mir.Syntax.{w32}
-use mir.Val.{SFits}
+use Rattle.std.specs.Prelude.{◌≡◌, refl, Bool, true, false, cond, ◌&&◌, List, [], ◌∷◌, ◌++◌, ℕ, zero, suc, ◌*◌, ◌^◌, ◌≤◌, ◌<◌, eqb, leb, ltb, ℤ, pos, ◌+ℤ◌, ◌-ℤ◌, length, get_or, drop}
+use Rattle.std.specs.Int.Signed.{lt_z}
+use Rattle.std.specs.Int.{w32}
+use Rattle.std.proofs.Common.{subst, le_refl, arith, length-append, SFits}
+use Rattle.std.proofs.lemmas.Bool.{eqb-false}
 use Rattle.rules.specs.Board as rules
 use Rattle.rules.specs.Refusals.{place_of}
 use Rattle.rules.specs.declared.Refusal.{Refusal}

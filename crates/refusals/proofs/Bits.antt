@@ -1,12 +1,7 @@
 -- Every call on bit domains is refused as 01's table says, and then hands back what it was given.
-use mathlib.Core.Path.{◌≡◌, refl, sym, ◌∙◌}
-use mathlib.Core.Bool.{◌&&◌}
-use mathlib.Core.List.{[], ◌∷◌}
-use native.Mathlib.Omega.{arith}
-use Prim.Native.Nat.{suc}
-use lib.Dec.{eqb, eqb→eq, leb, ltb}
-use lib.ListN.{length}
-use lib.Signed.{lt_z}
+use Rattle.std.specs.Prelude.{◌≡◌, refl, ◌&&◌, [], ◌∷◌, suc, eqb, leb, ltb, length}
+use Rattle.std.specs.Int.Signed.{lt_z}
+use Rattle.std.proofs.Common.{sym, ◌∙◌, arith, eqb→eq}
 use Rattle.ends.specs.Ends.{smallest_of, largest_of}
 use Rattle.offset.specs.Places.{span_of}
 use Rattle.rules.specs.Sets.{Chutes, some}

@@ -1,12 +1,6 @@
 -- Every call of the board is refused as 01's table says, and then hands back the board and the lent cells as it was given them.
-use mathlib.Core.Path.{◌≡◌, refl, sym, ap, ◌∙◌}
-use mathlib.Core.Bool.{Bool, true, false, cond}
-use mathlib.Core.List.{List, map}
-use native.Mathlib.Omega.{arith}
-use Prim.Native.Nat.{ℕ}
-use lib.Dec.{eqb, leb, ltb}
-use lib.IntN.{ℤ}
-use lib.ListN.{length}
+use Rattle.std.specs.Prelude.{◌≡◌, refl, Bool, true, false, cond, List, map, ℕ, eqb, leb, ltb, ℤ, length}
+use Rattle.std.proofs.Common.{sym, ap, ◌∙◌, arith}
 use Rattle.rules.specs.Sets.{Chutes, Different}
 use Rattle.rules.specs.Pass.{pass, Fits}
 use Rattle.rules.proofs.Sound.{pass-refutes}

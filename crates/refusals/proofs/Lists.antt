@@ -1,12 +1,7 @@
 -- A list is refused by 8 exactly if it has more than 64 ids; else by 6 or 7 exactly at the leftmost place whose id isn't registered, or stood earlier.
-use mathlib.Core.Path.{◌≡◌, refl, sym, ◌∙◌}
-use mathlib.Core.List.{List, []}
-use mathlib.Core.Logic.{◌↔◌, ◌⊎◌, inl, inr}
-use native.Mathlib.Omega.{arith}
-use Prim.Native.Nat.{ℕ, zero, suc, ◌+◌, ◌<◌, ◌≤◌}
-use borrow.Author.Tests.{leb-true, leb-false, le-leb, lt-leb}
-use lib.Dec.{leb}
-use lib.ListN.{length, get_or, take}
+use Rattle.std.specs.Prelude.{◌≡◌, refl, List, [], ◌↔◌, ◌⊎◌, ℕ, zero, suc, ◌+◌, ◌<◌, ◌≤◌, leb, length, get_or, take}
+use Rattle.std.proofs.Common.{sym, ◌∙◌, inl, inr, arith, leb-true, leb-false, le-leb}
+use Rattle.std.proofs.lemmas.Bool.{lt-leb}
 use Rattle.rules.specs.Board.{Rows, known, among, refused, scan, listing}
 use Rattle.rules.specs.declared.Refusal.{Refusal}
 use Rattle.rules.specs.declared.Refusal.TheVariants.{TooLong}

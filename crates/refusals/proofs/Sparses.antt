@@ -1,14 +1,7 @@
 -- Every call on sparse sets is refused as 01's table says, and then hands back what it was given.
-use mathlib.Core.Path.{◌≡◌, refl, ◌∙◌}
-use mathlib.Core.Bool.{not, ◌&&◌}
-use mathlib.Core.List.{List, [], ◌∷◌}
-use mathlib.Core.Logic.{◌↔◌}
-use native.Mathlib.Omega.{arith}
-use Prim.Native.Nat.{ℕ, ◌≤◌}
-use borrow.Author.Tests.{le-leb, ltb-false, le-ltb}
-use lib.Dec.{eqb, leb, ltb}
-use lib.ListN.{length}
-use lib.Signed.{lt_z}
+use Rattle.std.specs.Prelude.{◌≡◌, refl, not, ◌&&◌, List, [], ◌∷◌, ◌↔◌, ℕ, ◌≤◌, eqb, leb, ltb, length}
+use Rattle.std.specs.Int.Signed.{lt_z}
+use Rattle.std.proofs.Common.{◌∙◌, arith, le-leb, ltb-false, le-ltb}
 use Rattle.ends.specs.Ends.{smallest_of, largest_of}
 use Rattle.offset.specs.Places.{span_of}
 use Rattle.rules.specs.Board.{Verdict, accepted, refused, unless}

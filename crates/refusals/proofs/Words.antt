@@ -1,10 +1,6 @@
 -- The library's calls on a board in lent words: where the by-value call is refused, or the words are no board's, every word is as it came.
-use mathlib.Core.Path.{◌≡◌, ap, ◌∙◌}
-use mathlib.Core.List.{List, ◌++◌}
-use borrow.Author.Tests.{ltb-false}
-use Prim.Native.Nat.{ℕ}
-use lib.Dec.{ltb}
-use lib.ListN.{length, drop}
+use Rattle.std.specs.Prelude.{◌≡◌, List, ◌++◌, ℕ, ltb, length, drop}
+use Rattle.std.proofs.Common.{ap, ◌∙◌, ltb-false}
 use Rattle.rules.specs.Board as rules
 use Rattle.rules.specs.declared.Refusal.{Refusal}
 use Rattle.board.specs.Well.{well_board}

@@ -1,16 +1,9 @@
 -- Answers that have room in their code: a refusal whose place has, how many values a domain holds, and a value of a domain whose ends are i32
 -- numbers. Assumes nothing.
-use mathlib.Core.Path.{◌≡◌, sym, subst}
-use mathlib.Core.Bool.{true}
-use mathlib.Core.List.{[], ◌∷◌}
-use Prim.Native.Nat.{◌≤◌, ◌<◌, ◌^◌}
-use native.Mathlib.Omega.{arith}
-use lib.Count.{ones-le}
-use lib.Dec.{T}
-use lib.IntN.{ℤ}
-use lib.ListN.{length}
-use mir.Syntax.{w32}
-use mir.Val.{SFits}
+use Rattle.std.specs.Prelude.{◌≡◌, true, [], ◌∷◌, ◌≤◌, ◌<◌, ◌^◌, T, ℤ, length}
+use Rattle.std.specs.Int.{w32}
+use Rattle.std.proofs.Common.{sym, subst, arith, SFits}
+use Rattle.std.proofs.lemmas.Nat.{ones-le}
 use Rattle.rules.specs.Board as rules
 use Rattle.rules.specs.Sets.{Chutes, has}
 use Rattle.rules.specs.Refusals.{place_of}

@@ -1,12 +1,6 @@
 -- What an exported call's code has to do to be the by-value call between reading and writing. Assumes nothing.
-use mathlib.Core.Path.{◌≡◌, refl, sym, ap, ◌∙◌}
-use mathlib.Core.Bool.{Bool, true, false, ◌&&◌, cond}
-use mathlib.Core.List.{List, ◌++◌}
-use Prim.Native.Nat.{ℕ, ◌≤◌, ◌<◌}
-use native.Mathlib.Omega.{arith}
-use lib.Dec.{ltb}
-use lib.ListN.{length, drop}
-use borrow.Author.Tests.{lt-ltb, le-ltb, ltb-false}
+use Rattle.std.specs.Prelude.{◌≡◌, refl, Bool, true, false, ◌&&◌, cond, List, ◌++◌, ℕ, ◌≤◌, ◌<◌, ltb, length, drop}
+use Rattle.std.proofs.Common.{sym, ap, ◌∙◌, arith, lt-ltb, le-ltb, ltb-false}
 use Rattle.rules.specs.Board as rules
 use Rattle.rules.specs.declared.Refusal.TheVariants.{Broken, NoRoom}
 use Rattle.board.specs.Well.{well_board}

@@ -1,13 +1,8 @@
 -- Laws of the board's calls: a refusal and a question change nothing, a closing of no destination neither, marks touch what they say and no more,
 -- a batch is its closings, and a propagation touches the listed domains only.
-use mathlib.Core.Path.{◌≡◌, refl, sym, ap, ◌∙◌}
-use mathlib.Core.Bool.{Bool, true, false, not, ◌||◌, cond}
-use mathlib.Core.List.{List, [], ◌∷◌, map}
-use Prim.Native.Nat.{ℕ, suc, ◌+◌}
-use native.Mathlib.Omega.{arith}
-use lib.Dec.{T, eqb→eq}
-use lib.ListN.{length, length-map}
-use lib.IntN.{ℤ}
+use Rattle.std.specs.Prelude.{◌≡◌, refl, Bool, true, false, not, ◌||◌, cond, List, [], ◌∷◌, map, ℕ, suc, ◌+◌, T, length, ℤ}
+use Rattle.std.proofs.Common.{sym, ap, ◌∙◌, arith, eqb→eq}
+use Rattle.std.proofs.lemmas.List.{length-map}
 use Rattle.rules.specs.declared.Refusal.{Refusal}
 use Rattle.rules.specs.declared.Refusal.TheVariants.{TrialOpen, Empty}
 use Rattle.rules.specs.Sets.{Chutes, keep, some}

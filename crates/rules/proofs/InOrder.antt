@@ -1,12 +1,9 @@
 -- Chutes in order: ascending lists, and the smallest and the largest chute.
-use mathlib.Core.Path.{◌≡◌, refl, sym, ap, ap₂, ◌∙◌, subst}
-use mathlib.Core.Bool.{Bool, true, false, not, ◌||◌, cond}
-use mathlib.Core.List.{[], ◌∷◌}
-use mathlib.Core.Logic.{⊎_elim}
-use native.Mathlib.Nat.{le_refl, le_trans, le_antisymm, le_of_lt}
-use lib.Dec.{T, leb→le, le→leb, ltb→lt, not_T}
-use lib.IntN.{ℤ, pos, negsuc}
-use lib.Signed.{lt_z, le_z, lt_z_no, lt_z_yes, le_z_yes, <ℤ-≤ℤ_trans, <ℤ_irrefl}
+use Rattle.std.specs.Prelude.{◌≡◌, refl, Bool, true, false, not, ◌||◌, cond, [], ◌∷◌, T, ℤ, pos, negsuc}
+use Rattle.std.specs.Int.Signed.{lt_z, le_z}
+use Rattle.std.proofs.Common.{sym, ap, ap₂, ◌∙◌, subst, ⊎_elim, le_refl, le_trans, le_antisymm, le_of_lt, leb→le, le→leb, ltb→lt}
+use lib.Dec.{not_T}
+use lib.Signed.{lt_z_no, lt_z_yes, le_z_yes, <ℤ-≤ℤ_trans, <ℤ_irrefl}
 use Rattle.rules.specs.Sets.{Chutes, same, has, keep, insert, ascending, Ascending, smallest, largest, Different, Within}
 use Rattle.rules.proofs.Tests.{or_cases, is_true, true-is, on-cond}
 use Rattle.rules.proofs.SetLaws.{same→eq, same_refl, has-cons, has-head, has-tail, keep-within}
@@ -132,7 +129,7 @@ module _ (x y : ℤ) (s : Chutes) where
   -- what a list has that begins with one of the two
   one_of : (z : ℤ) (b : Bool) → T (has z (cond b y x ∷ s)) → T (has z (x ∷ y ∷ s))
   one_of z true h = has-tail z x (y ∷ s) h
-  one_of z false h = ⊎_elim (λ q. rw q (has-head x (y ∷ s))) (λ k. has-tail z x (y ∷ s) (has-tail z y s k)) (has-cons z x s h)
+  one_of z false h = ⊎_elim (λ q. subst (λ (v : ℤ). T (has v (x ∷ y ∷ s))) (sym q) (has-head x (y ∷ s))) (λ k. has-tail z x (y ∷ s) (has-tail z y s k)) (has-cons z x s h)
 
 pub smallest-has : (x : ℤ) (s : Chutes) → T (has (smallest x s) (x ∷ s))
 smallest-has x [] = has-head x []

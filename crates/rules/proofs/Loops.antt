@@ -1,13 +1,10 @@
 -- Laws for the code's loops: the sweep place by place, subsets of one place, the chain over the table, the size of a union however it is
 -- gathered, and a list's ids place by place.
-use mathlib.Core.Path.{◌≡◌, refl, sym, ap, ◌∙◌}
-use mathlib.Core.Bool.{Bool, true, false, not, ◌&&◌, ◌||◌, cond}
-use mathlib.Core.List.{List, [], ◌∷◌, ◌++◌, map, append-nil, map-map}
-use Prim.Native.Nat.{ℕ, zero, suc, ◌≤◌, ◌<◌}
-use native.Mathlib.Nat.{le_refl, not-suc-le-zero, le_of_suc-le-suc}
-use lib.Dec.{eqb}
-use lib.ListN.{length, get_or, take, drop, set, drop_of_length-le}
-use lib.Seq.{take-suc, drop-cons, append_snoc, take-suc-set, drop-set-lt, set_split}
+use Rattle.std.specs.Prelude.{◌≡◌, refl, Bool, true, false, not, ◌&&◌, ◌||◌, cond, List, [], ◌∷◌, ◌++◌, map, ℕ, zero, suc, ◌≤◌, ◌<◌, eqb, length, get_or, take, drop, set}
+use Rattle.std.proofs.Common.{sym, ap, ◌∙◌, append-nil, le_refl, not-suc-le-zero, le_of_suc-le-suc, drop_of_length-le, take-suc, drop-cons, take-suc-set, drop-set-lt}
+use Rattle.std.proofs.lemmas.Simd.{map-map}
+use Rattle.std.proofs.lemmas.List.{set_split}
+use lib.Seq.{append_snoc}
 use Rattle.rules.specs.declared.Refusal.TheVariants.{Unknown, Repeated}
 use Rattle.rules.specs.Sets.{Chutes, has, keep, some, strike, all, union, Different, Within}
 use Rattle.rules.specs.Pass.{Places, pick, choose, Swept, still, lost, sweep, next, chain, tight}

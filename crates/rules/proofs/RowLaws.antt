@@ -1,12 +1,7 @@
 -- Laws of rows: what a put changes and what it leaves, and which lists are accepted.
-use mathlib.Core.Path.{◌≡◌, refl, sym, ap, ◌∙◌}
-use mathlib.Core.Bool.{Bool, true, false, not, ◌&&◌, ◌||◌, cond}
-use mathlib.Core.List.{List, [], ◌∷◌}
-use mathlib.Core.Logic.{◌⊎◌, inl, inr, ⊎_elim}
-use Prim.Native.Nat.{ℕ, suc}
-use native.Mathlib.Omega.{arith}
-use lib.Dec.{T, eqb, eqb→eq, eqb_refl, leb, T_not, not_T}
-use lib.ListN.{length}
+use Rattle.std.specs.Prelude.{◌≡◌, refl, Bool, true, false, not, ◌&&◌, ◌||◌, cond, List, [], ◌∷◌, ◌⊎◌, ℕ, suc, T, eqb, leb, length}
+use Rattle.std.proofs.Common.{subst, sym, ap, ◌∙◌, inl, inr, ⊎_elim, arith, eqb→eq, T_not}
+use lib.Dec.{eqb_refl, not_T}
 use Rattle.rules.specs.declared.Refusal.TheVariants.{Unknown, Repeated, TooLong}
 use Rattle.rules.specs.Sets.{Chutes, Every, Ascending}
 use Rattle.rules.specs.Board.{Rows, ids, among, known, domain, put, puts, domains, accepted, unless, scan, listing, accepts, Ordered}
@@ -137,7 +132,7 @@ puts-other rs [] ds j t = refl
 puts-other rs (i ∷ is) [] j t = refl
 puts-other rs (i ∷ is) (d ∷ ds) j t =
     ⊎_elim
-    (λ c. absurd (T_not (among j (i ∷ is)) t (rw c.0 (or_left (eqb i i) (among i is) (eqb_refl i)))))
+    (λ c. absurd (T_not (among j (i ∷ is)) t (subst (λ (n : ℕ). T (among n (i ∷ is))) (sym c.0) (or_left (eqb i i) (among i is) (eqb_refl i)))))
     (λ c. c ∙ puts-other rs is ds j (not_T (among j is) (λ h. T_not (among j (i ∷ is)) t (or_right (eqb j i) (among j is) h))))
     (put-cases (puts rs is ds) i d j)
 

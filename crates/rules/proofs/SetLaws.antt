@@ -1,14 +1,7 @@
 -- Laws of sets: membership, the pigeonhole, and what ascending lists have besides.
-use mathlib.Core.Path.{◌≡◌, refl, sym, ap, ◌∙◌}
-use mathlib.Core.Bool.{Bool, true, false, not, ◌&&◌, ◌||◌, cond, true≢false}
-use mathlib.Core.List.{[], ◌∷◌, ◌++◌}
-use mathlib.Core.Logic.{◌⊎◌, inl, inr, ⊎_elim}
-use Prim.Native.Nat.{ℕ, zero, suc, ◌≤◌, ◌<◌, zero-le}
-use native.Mathlib.Nat.{le_trans, lt_irrefl, le_antisymm}
-use native.Mathlib.Omega.{arith}
-use lib.Dec.{T, eqb→eq, eqb_refl, ltb, lt→ltb, ltb→lt, T_not, not_T}
-use lib.ListN.{length, get_or}
-use lib.IntN.{ℤ, pos, negsuc}
+use Rattle.std.specs.Prelude.{◌≡◌, refl, Bool, true, false, not, ◌&&◌, ◌||◌, cond, [], ◌∷◌, ◌++◌, ◌⊎◌, ℕ, zero, suc, ◌≤◌, ◌<◌, T, ltb, length, get_or, ℤ, pos, negsuc}
+use Rattle.std.proofs.Common.{sym, ap, ◌∙◌, true≢false, inl, inr, ⊎_elim, zero-le, le_trans, lt_irrefl, le_antisymm, arith, eqb→eq, lt→ltb, ltb→lt, T_not}
+use lib.Dec.{eqb_refl, not_T}
 use Rattle.rules.specs.Sets.{Chutes, same, has, some, every, keep, strike, once, Different, Within}
 use Rattle.rules.specs.Pass.{lost}
 use Rattle.rules.proofs.Tests.{or_cases, or_left, or_right, and_left, and_right, and_both, and-false, is_true, is_false, true-is}

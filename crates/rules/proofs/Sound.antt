@@ -1,14 +1,8 @@
 -- The pass is sound. It keeps every way that the listed domains allow and that gives different chutes (`pass-keeps`), because a subset with no more
 -- values than ids uses them all up (`tight-uses`); so an inconsistent answer refutes (`pass-refutes`). And it only removes (`pass-sub`).
-use mathlib.Core.Path.{◌≡◌, refl, ap}
-use mathlib.Core.Bool.{true, false, not, ◌&&◌}
-use mathlib.Core.List.{List, [], ◌∷◌}
-use mathlib.Core.Logic.{⊎_elim}
-use Prim.Native.Nat.{suc}
-use native.Mathlib.Omega.{arith}
-use lib.Dec.{T, eqb→eq, leb, T_not, not_T}
-use lib.ListN.{length}
-use lib.IntN.{ℤ}
+use Rattle.std.specs.Prelude.{◌≡◌, refl, true, false, not, ◌&&◌, List, [], ◌∷◌, suc, T, leb, length, ℤ}
+use Rattle.std.proofs.Common.{sym, subst, ap, ⊎_elim, arith, eqb→eq, T_not}
+use lib.Dec.{not_T}
 use Rattle.rules.specs.Sets.{Chutes, has, some, strike, all, union, Every, Different, Within}
 use Rattle.rules.specs.Pass.{Places, pick, choose, rounds, Swept, lost, sweep, chain, tight, hall, noted, present, step1, step2, pass, Fits}
 use Rattle.rules.proofs.Tests.{or_left, or_right, and_left, and_both, and-false, is_true, on-cond}
@@ -43,7 +37,7 @@ pub pick-within : (m : Places) (w : List ℤ) → Within (pick m w) w
 pick-within [] w x h = absurd h
 pick-within (b ∷ m) [] x h = absurd h
 pick-within (true ∷ m) (y ∷ w) x h =
-    ⊎_elim (λ q. rw q (has-head y w)) (λ k. has-tail x y w (pick-within m w x k)) (has-cons x y (pick m w) h)
+    ⊎_elim (λ q. subst (λ (v : ℤ). T (has v (y ∷ w))) (sym q) (has-head y w)) (λ k. has-tail x y w (pick-within m w x k)) (has-cons x y (pick m w) h)
 pick-within (false ∷ m) (y ∷ w) x h = has-tail x y w (pick-within m w x h)
 
 pub pick-different : (m : Places) (w : List ℤ) → Different w → Different (pick m w)

@@ -1,9 +1,7 @@
 -- Laws of tests: `T b` is the fact that the test b holds.
-use mathlib.Core.Path.{◌≡◌, refl, sym, ◌∙◌}
-use mathlib.Core.Bool.{Bool, true, false, not, ◌&&◌, ◌||◌, cond}
-use mathlib.Core.Logic.{◌⊎◌, inl, inr}
-use lib.Dec.{T}
-use borrow.Author.Tests.{not-true, not-false}
+use Rattle.std.specs.Prelude.{◌≡◌, refl, Bool, true, false, not, ◌&&◌, ◌||◌, cond, ◌⊎◌, T}
+use Rattle.std.proofs.Common.{sym, ◌∙◌, inl, inr}
+use Rattle.std.proofs.lemmas.Bool.{not-true, not-false}
 
 pub or_cases : (a b : Bool) → T (a || b) → T a ⊎ T b
 or_cases true b t = inl tt

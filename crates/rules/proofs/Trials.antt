@@ -1,14 +1,8 @@
 -- Demand 3, over any run of calls: while a trial's mark is open, the domains allow exactly the ways that those at the mark allow and that the work
 -- in force permits (`trial-exact`); restoring the mark gives back every domain (`trial-restored`); an inconsistent answer refutes (`trial-refutes`);
 -- the destinations and their order stay (`trial-ids`).
-use mathlib.Core.Path.{◌≡◌, refl, ◌∙◌}
-use mathlib.Core.Bool.{Bool, true, false, not, ◌&&◌, cond}
-use mathlib.Core.List.{List, [], ◌∷◌, ◌++◌, map}
-use mathlib.Core.Logic.{⊎_elim}
-use Prim.Native.Nat.{ℕ}
-use native.Mathlib.Omega.{arith}
-use lib.Dec.{T}
-use lib.ListN.{length}
+use Rattle.std.specs.Prelude.{◌≡◌, refl, Bool, true, false, not, ◌&&◌, cond, List, [], ◌∷◌, ◌++◌, map, ℕ, T, length}
+use Rattle.std.proofs.Common.{◌∙◌, ⊎_elim, arith}
 use Rattle.rules.specs.Sets.{Chutes, has, keep, some, Every, Different, Within}
 use Rattle.rules.specs.Pass.{pass, Fits}
 use Rattle.rules.specs.Board.{Rows, ids, among, known, domain, puts, domains, Board, leaves, Closing, shut, shut_on, shut_all, Call, register, close, batch, spread, ready, mark, restore, release, reset, ask, Verdict, accepted, refused, refusal, outcome, reply, judged, answer, effect, accepts, taken, act, run, Well}

@@ -1,12 +1,8 @@
 -- A well-formed board stays so under every call (`well-act`), and while a mark is open its ids and their order stay (`ids-stay`).
-use mathlib.Core.Path.{◌≡◌, refl, sym, ap, ◌∙◌}
-use mathlib.Core.Bool.{Bool, true, false, not, ◌||◌, cond}
-use mathlib.Core.List.{List, [], ◌∷◌, ◌++◌}
-use mathlib.Core.Logic.{◌⊎◌, inl, inr, ⊎_elim}
-use Prim.Native.Nat.{ℕ, ◌≤◌}
-use native.Mathlib.Omega.{arith}
-use lib.Dec.{T, eqb, eqb→eq, eqb_refl, ltb, ltb→lt, T_not, not_T}
-use lib.ListN.{length, length-append, length-map}
+use Rattle.std.specs.Prelude.{◌≡◌, refl, Bool, true, false, not, ◌||◌, cond, List, [], ◌∷◌, ◌++◌, ◌⊎◌, ℕ, ◌≤◌, T, eqb, ltb, length}
+use Rattle.std.proofs.Common.{sym, ap, ◌∙◌, inl, inr, ⊎_elim, arith, eqb→eq, ltb→lt, T_not, length-append}
+use Rattle.std.proofs.lemmas.List.{length-map}
+use lib.Dec.{eqb_refl, not_T}
 use Rattle.rules.specs.declared.Refusal.{Refusal}
 use Rattle.rules.specs.declared.Refusal.TheVariants.{Full, TrialOpen, TooDeep}
 use Rattle.rules.specs.Sets.{Chutes, has, keep, some, ascending, Every, Ascending}

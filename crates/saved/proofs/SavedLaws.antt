@@ -1,16 +1,8 @@
 -- What is below a limit, of two masks together; what a put changes and leaves of the saved masks; and that words stay words.
-use mathlib.Core.Path.{◌≡◌, refl, ◌∙◌}
-use mathlib.Core.Bool.{Bool, true, false, ◌&&◌}
-use mathlib.Core.List.{List, [], ◌∷◌}
-use mathlib.Core.Logic.{inl, inr}
-use Prim.Native.Nat.{ℕ, zero, suc, ◌+◌, ◌^◌, ◌≤◌, ◌<◌}
-use native.Mathlib.Nat.{le_antisymm}
-use native.Mathlib.Omega.{arith}
-use lib.Bits.{bit_or}
-use lib.Dec.{T, ltb, ltb→lt}
-use lib.ListN.{length, get_or, set, length-set}
+use Rattle.std.specs.Prelude.{◌≡◌, refl, Bool, true, false, ◌&&◌, List, [], ◌∷◌, ℕ, zero, suc, ◌+◌, ◌^◌, ◌≤◌, ◌<◌, T, ltb, length, get_or, set}
+use Rattle.std.specs.Int.Bits.{bit_or}
+use Rattle.std.proofs.Common.{◌∙◌, inl, inr, le_antisymm, arith, ltb→lt, length-set, ltb-true, ltb-false, lt-ltb}
 use lib.Seq.{get_or-set_same, get_or-set_other}
-use borrow.Author.Tests.{ltb-true, ltb-false, lt-ltb}
 use Rattle.mask.specs.Sets.{In, in-or, fits_in, or-below}
 use Rattle.mask.specs.Val.{Fit}
 use Rattle.mask.specs.Words.{Words, word_lt}

@@ -1,10 +1,6 @@
 -- A whole sheet, by how far its sections can be read. Assumes nothing.
-use Prim.Native.Nat.{ℕ, ◌≤◌, ◌<◌}
-use mathlib.Core.Path.{◌≡◌, refl, ap, ◌∙◌}
-use mathlib.Core.List.{List}
-use native.Mathlib.Omega.{arith}
-use borrow.Author.Tests.{lt-ltb, le-ltb}
-use lib.ListN.{length}
+use Rattle.std.specs.Prelude.{ℕ, ◌≤◌, ◌<◌, ◌≡◌, refl, List, length}
+use Rattle.std.proofs.Common.{ap, ◌∙◌, arith, lt-ltb, le-ltb}
 use Rattle.closing.specs.declared.Closing.{Closing}
 use Rattle.sheet_form.specs.declared.Destination.{Destination}
 use Rattle.sheet_form.specs.Sheet.{Sheet}

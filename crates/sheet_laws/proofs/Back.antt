@@ -1,16 +1,10 @@
 -- The decimal text of a number is read back as that number. Assumes nothing.
-use Prim.Native.Nat.{ℕ, zero, suc, ◌+◌, ◌-◌, ◌*◌, ◌/◌, ◌%◌, ◌≤◌, ◌<◌}
-use mathlib.Core.Path.{◌≡◌, refl, ap, sym, ◌∙◌}
-use mathlib.Core.List.{List, [], ◌∷◌, ◌++◌}
-use mathlib.Core.Bool.{Bool, true, false, cond}
-use mathlib.Core.Option.{Option, some, none}
-use native.Mathlib.Omega.{arith}
-use native.Mathlib.Decide.{dec_lt}
-use borrow.Author.Tests.{le-leb, ne_eqb}
-use lib.ListN.{length, drop}
+use Rattle.std.specs.Prelude.{ℕ, zero, suc, ◌+◌, ◌-◌, ◌*◌, ◌/◌, ◌%◌, ◌≤◌, ◌<◌, ◌≡◌, refl, List, [], ◌∷◌, ◌++◌, Bool, true, false, cond, length, drop, ℤ, pos, negsuc}
+use Rattle.std.specs.Int.Signed.{le_z}
+use Rattle.std.proofs.Common.{ap, sym, ◌∙◌, arith, le-leb, ne_eqb}
+use Rattle.std.proofs.Math.Option.{Option, some, none}
+use Rattle.std.proofs.Math.Decide.{dec_lt}
 use lib.Seq.{drop-append_seam}
-use lib.IntN.{ℤ, pos, negsuc}
-use lib.Signed.{le_z}
 use Rattle.decimal.specs.Decimal.{last_digit, natural, decimal}
 use Rattle.decimal.proofs.Digits.{natural-small, natural-step}
 use Rattle.sheet_number.specs.Number.{is_digit, in_run, run, digits, positive, written, signed, minus, number_at, got}

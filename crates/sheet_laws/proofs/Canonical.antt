@@ -1,13 +1,8 @@
 -- A number has one text: what a run writes, `decimal` writes again. Assumes nothing.
-use Prim.Native.Nat.{ℕ, zero, suc, ◌+◌, ◌-◌, ◌*◌, ◌/◌, ◌%◌, ◌≤◌, ◌<◌}
-use mathlib.Core.Path.{◌≡◌, refl, ap, sym, ◌∙◌}
-use mathlib.Core.List.{List, [], ◌∷◌, ◌++◌, append_assoc, append-nil}
-use mathlib.Core.Bool.{Bool, true, false, cond}
-use mathlib.Core.Option.{Option, some, none}
-use native.Mathlib.Omega.{arith}
-use borrow.Author.Tests.{eqb-true, eqb-false}
-use lib.Dec.{eqb}
-use lib.IntN.{ℤ, pos}
+use Rattle.std.specs.Prelude.{ℕ, zero, suc, ◌+◌, ◌-◌, ◌*◌, ◌/◌, ◌%◌, ◌≤◌, ◌<◌, ◌≡◌, refl, List, [], ◌∷◌, ◌++◌, Bool, true, false, cond, eqb, ℤ, pos}
+use Rattle.std.proofs.Common.{ap, sym, ◌∙◌, append_assoc, append-nil, arith, eqb-true}
+use Rattle.std.proofs.Math.Option.{Option, some, none}
+use Rattle.std.proofs.lemmas.Bool.{eqb-false}
 use Rattle.decimal.specs.Decimal.{last_digit, natural, decimal}
 use Rattle.decimal.proofs.Digits.{natural-small, natural-step}
 use Rattle.sheet_number.specs.Number.{is_digit, digits, positive, written, signed, minus, alone}

@@ -1,9 +1,5 @@
 -- 01's sheet, and a text for each way to be at fault, read by the definition. Assumes nothing.
-use Prim.Native.Nat.{ℕ}
-use mathlib.Core.Path.{◌≡◌, refl}
-use mathlib.Core.List.{[], ◌∷◌}
-use lib.ListN.{replicate}
-use lib.IntN.{ℤ, pos, negsuc}
+use Rattle.std.specs.Prelude.{ℕ, ◌≡◌, refl, [], ◌∷◌, replicate, ℤ, pos, negsuc}
 use Rattle.closing.specs.declared.Kind.{Kind}
 use Rattle.closing.specs.declared.Kind.TheVariants.{Remove, Assign}
 use Rattle.closing.specs.declared.Closing.{Closing}

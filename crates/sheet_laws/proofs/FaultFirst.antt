@@ -1,16 +1,9 @@
 -- The place of a bad sheet is the first at which the text can't be that of a sheet; there is one such place, and no other is told. Assumes nothing.
-use Prim.Native.Nat.{ℕ, zero, suc, ◌≤◌, ◌<◌}
-use mathlib.Core.Path.{◌≡◌, refl, ap, sym, ◌∙◌, subst}
-use mathlib.Core.List.{List, [], ◌∷◌, ◌++◌, append-nil}
-use mathlib.Core.Bool.{Bool, false, cond, ◌&&◌}
-use mathlib.Core.Option.{some}
-use native.Mathlib.Omega.{arith}
-use native.Mathlib.Nat.{zero-add}
-use native.Mathlib.Decide.{dec_lt}
-use borrow.Author.Tests.{lt-ltb, le-ltb}
-use lib.Dec.{ltb}
-use lib.ListN.{length, take, drop, length-append, take-append-drop}
-use lib.Seq.{take-append_seam, drop-append_seam, take-take}
+use Rattle.std.specs.Prelude.{ℕ, zero, suc, ◌≤◌, ◌<◌, ◌≡◌, refl, List, [], ◌∷◌, ◌++◌, Bool, false, cond, ◌&&◌, ltb, length, take, drop}
+use Rattle.std.proofs.Common.{ap, sym, ◌∙◌, subst, append-nil, arith, zero-add, lt-ltb, le-ltb, length-append, take-append-drop, take-take}
+use Rattle.std.proofs.Math.Option.{some}
+use Rattle.std.proofs.Math.Decide.{dec_lt}
+use lib.Seq.{take-append_seam, drop-append_seam}
 use Rattle.sheet_form.specs.Sheet.{Sheet}
 use Rattle.sheet_number.specs.declared.Fault.{Fault}
 use Rattle.sheet_number.specs.declared.Fault.TheVariants.{Trailing, TooLong}

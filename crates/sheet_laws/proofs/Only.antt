@@ -1,18 +1,9 @@
 -- A text that is read as a sheet is the text of that sheet, and the sheet is good. Assumes nothing.
-use Prim.Native.Nat.{ℕ, zero, suc, ◌+◌, ◌-◌, ◌^◌, ◌≤◌, ◌<◌}
-use mathlib.Core.Path.{◌≡◌, refl, ap, ap₂, sym, ◌∙◌, subst}
-use mathlib.Core.List.{List, [], ◌∷◌, ◌++◌, append_assoc, append-nil}
-use mathlib.Core.Bool.{Bool, true, false, cond, ◌&&◌}
-use mathlib.Core.Option.{Option, some, none}
-use native.Mathlib.Omega.{arith}
-use borrow.Author.Tests.{ltb-true, ltb-false, eqb-true}
-use lib.Dec.{ltb, eqb}
-use lib.ListN.{length, get_or, take, drop, length-append, length-drop, take-append-drop, drop_of_length-le}
-use lib.Seq.{drop-drop, drop-cons}
-use lib.IntN.{ℤ, pos, negsuc, nat_abs}
-use lib.Signed.{le_z}
-use mir.Syntax.{w32}
-use mir.Val.{SFits}
+use Rattle.std.specs.Prelude.{ℕ, zero, suc, ◌+◌, ◌-◌, ◌^◌, ◌≤◌, ◌<◌, ◌≡◌, refl, List, [], ◌∷◌, ◌++◌, Bool, true, false, cond, ◌&&◌, ltb, eqb, length, get_or, take, drop, ℤ, pos, negsuc, nat_abs}
+use Rattle.std.specs.Int.Signed.{le_z}
+use Rattle.std.specs.Int.{w32}
+use Rattle.std.proofs.Common.{ap, ap₂, sym, ◌∙◌, subst, append_assoc, append-nil, arith, ltb-true, ltb-false, eqb-true, length-append, length-drop, take-append-drop, drop_of_length-le, drop-drop, drop-cons, SFits}
+use Rattle.std.proofs.Math.Option.{Option, some, none}
 use Rattle.closing.specs.declared.Closing.{Closing}
 use Rattle.decimal.specs.Decimal.{decimal}
 use Rattle.sheet_form.specs.declared.Destination.{Destination}

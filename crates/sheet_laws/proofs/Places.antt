@@ -1,15 +1,8 @@
 -- A fault lies within the text: at one of its bytes, or at its length. It is told as 15, with that place. Assumes nothing.
-use Prim.Native.Nat.{ℕ, zero, suc, ◌+◌, ◌≤◌, ◌<◌}
-use mathlib.Core.Path.{◌≡◌, refl}
-use mathlib.Core.List.{List, [], ◌∷◌}
-use mathlib.Core.Bool.{Bool, true, false, cond, ◌&&◌}
-use mathlib.Core.Option.{Option, some, none}
-use native.Mathlib.Omega.{arith}
-use borrow.Author.Tests.{ltb-true, ltb-false}
-use lib.Dec.{ltb, eqb}
-use lib.ListN.{length, get_or, drop, length-drop}
-use lib.IntN.{ℤ, nat_abs}
-use lib.Signed.{le_z}
+use Rattle.std.specs.Prelude.{ℕ, zero, suc, ◌+◌, ◌≤◌, ◌<◌, ◌≡◌, refl, List, [], ◌∷◌, Bool, true, false, cond, ◌&&◌, ltb, eqb, length, get_or, drop, ℤ, nat_abs}
+use Rattle.std.specs.Int.Signed.{le_z}
+use Rattle.std.proofs.Common.{arith, ltb-true, ltb-false, length-drop}
+use Rattle.std.proofs.Math.Option.{Option, some, none}
 use Rattle.rules.specs.Refusals.{number_of, place_of}
 use Rattle.sheet_form.specs.Sheet.{Sheet}
 use Rattle.sheet_number.specs.declared.Fault.{Fault}

@@ -1,17 +1,9 @@
 -- The text of a good sheet is read back as that sheet. Assumes nothing.
-use Prim.Native.Nat.{ℕ, zero, suc, ◌+◌, ◌*◌, ◌^◌, ◌≤◌, ◌<◌}
-use mathlib.Core.Path.{◌≡◌, refl, ap, ap₂, sym, ◌∙◌, subst}
-use mathlib.Core.List.{List, [], ◌∷◌, ◌++◌, append_assoc}
-use mathlib.Core.Bool.{true, false}
-use native.Mathlib.Omega.{arith}
-use native.Mathlib.Nat.{add-zero, zero-add, mul-suc}
-use borrow.Author.Tests.{le-leb}
-use lib.ListN.{length, get_or, length-append}
+use Rattle.std.specs.Prelude.{ℕ, zero, suc, ◌+◌, ◌*◌, ◌^◌, ◌≤◌, ◌<◌, ◌≡◌, refl, List, [], ◌∷◌, ◌++◌, true, false, length, get_or, ℤ, pos, negsuc, nat_abs}
+use Rattle.std.specs.Int.Signed.{le_z}
+use Rattle.std.specs.Int.{w32}
+use Rattle.std.proofs.Common.{ap, ap₂, sym, ◌∙◌, subst, append_assoc, arith, add-zero, zero-add, mul-suc, le-leb, length-append, SFits}
 use lib.Seq.{get_or-append_seam}
-use lib.IntN.{ℤ, pos, negsuc, nat_abs}
-use lib.Signed.{le_z}
-use mir.Syntax.{w32}
-use mir.Val.{SFits}
 use Rattle.closing.specs.declared.Kind.{Kind}
 use Rattle.closing.specs.declared.Kind.TheVariants.{Remove, Assign, Below, Above}
 use Rattle.closing.specs.declared.Closing.{Closing}

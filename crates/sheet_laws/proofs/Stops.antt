@@ -1,18 +1,11 @@
 -- What a reader makes of any text: either it reads a part of it, whatever follows; or it stops at a place. Up to that place the text could
 -- still be read, if it went on otherwise; and it stops there whatever follows the token that stands there. Assumes nothing.
-use Prim.Native.Nat.{ℕ, zero, suc, ◌+◌, ◌≤◌, ◌<◌}
-use mathlib.Core.Path.{◌≡◌, refl, ap, ap₂, sym, ◌∙◌, subst}
-use mathlib.Core.List.{List, [], ◌∷◌, ◌++◌, append_assoc}
-use mathlib.Core.Bool.{Bool, true, false, cond, ◌&&◌}
-use mathlib.Core.Option.{Option, some, none}
-use native.Mathlib.Omega.{arith}
-use native.Mathlib.Nat.{add-zero}
-use borrow.Author.Tests.{le-leb, eqb-true, eqb-false}
-use lib.Dec.{eqb}
-use lib.ListN.{length, get_or, drop, length-append}
+use Rattle.std.specs.Prelude.{ℕ, zero, suc, ◌+◌, ◌≤◌, ◌<◌, ◌≡◌, refl, List, [], ◌∷◌, ◌++◌, Bool, true, false, cond, ◌&&◌, eqb, length, get_or, drop, ℤ, pos, negsuc, nat_abs}
+use Rattle.std.specs.Int.Signed.{le_z}
+use Rattle.std.proofs.Common.{ap, ap₂, sym, ◌∙◌, subst, append_assoc, arith, add-zero, le-leb, eqb-true, length-append}
+use Rattle.std.proofs.Math.Option.{Option, some, none}
+use Rattle.std.proofs.lemmas.Bool.{eqb-false}
 use lib.Seq.{drop-append_seam, get_or-append_seam}
-use lib.IntN.{ℤ, pos, negsuc, nat_abs}
-use lib.Signed.{le_z}
 use Rattle.closing.specs.declared.Closing.{Closing}
 use Rattle.decimal.specs.Decimal.{decimal}
 use Rattle.decimal.proofs.Digits.{natural-small}

@@ -1,13 +1,8 @@
 -- What a run writes, told by its first byte and the rest. Assumes nothing.
-use Prim.Native.Nat.{ℕ, ◌+◌, ◌<◌, min}
-use mathlib.Core.Path.{◌≡◌, ap, ap₂, sym, ◌∙◌}
-use mathlib.Core.List.{List, []}
-use mathlib.Core.Bool.{Bool, true, false}
-use mathlib.Core.Option.{Option, some, none}
-use borrow.Author.Tests.{eqb-true, eqb-false}
-use lib.Dec.{eqb}
-use lib.IntN.{ℤ, pos}
-use lib.ListN.{length, get_or, drop}
+use Rattle.std.specs.Prelude.{ℕ, ◌+◌, ◌<◌, min, ◌≡◌, List, [], Bool, true, false, eqb, ℤ, pos, length, get_or, drop}
+use Rattle.std.proofs.Common.{ap, ap₂, sym, ◌∙◌, eqb-true}
+use Rattle.std.proofs.Math.Option.{Option, some, none}
+use Rattle.std.proofs.lemmas.Bool.{eqb-false}
 use Rattle.sheet_number.specs.Number.{in_run, run, run_end, positive, alone, written, signed, minus}
 use Rattle.sheet_number.specs.Told.{within, sign_of, skip_of, cap, capped}
 use Rattle.sheet_number.specs.declared.Digits.TheVariants.{Not, Are}

@@ -1,18 +1,11 @@
 -- A number at a place: the cases of `number_at`, from what a whole run writes. Assumes nothing.
-use Prim.Native.Nat.{ℕ, ◌^◌, ◌≤◌, ◌<◌}
-use mathlib.Core.Path.{◌≡◌, refl, ap, ap₂, sym, ◌∙◌, subst}
-use mathlib.Core.List.{List}
-use mathlib.Core.Bool.{Bool, true, false, cond, ◌&&◌}
-use mathlib.Core.Option.{Option, some, none}
-use native.Mathlib.Omega.{arith}
-use borrow.Author.Tests.{ltb-true, ltb-false, lt-leb, le-leb}
-use lib.Dec.{ltb}
-use lib.ListN.{length, drop}
-use lib.IntN.{ℤ, pos, negsuc}
-use lib.Signed.{mag, le_z}
-use mir.Syntax.{w64}
-use mir.Val.{SFits, to_z, of_z}
-use mir.ValLaws.{to_z-of_z}
+use Rattle.std.specs.Prelude.{ℕ, ◌^◌, ◌≤◌, ◌<◌, ◌≡◌, refl, List, Bool, true, false, cond, ◌&&◌, ltb, length, drop, ℤ, pos, negsuc}
+use Rattle.std.specs.Int.Signed.{mag, le_z}
+use Rattle.std.specs.Int.{w64}
+use Rattle.std.proofs.Common.{ap, ap₂, sym, ◌∙◌, subst, arith, ltb-true, ltb-false, le-leb, SFits, to_z, of_z}
+use Rattle.std.proofs.Math.Option.{Option, some, none}
+use Rattle.std.proofs.lemmas.Bool.{lt-leb}
+use Rattle.std.proofs.lemmas.Int.{to_z-of_z}
 use Rattle.sheet_number.specs.Number.{run, run_end, written, number_at, fault_at}
 use Rattle.sheet_number.specs.Told.{within, number}
 use Rattle.sheet_number.specs.declared.Written.{Written}

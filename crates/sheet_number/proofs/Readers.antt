@@ -1,18 +1,12 @@
 -- What a reader gives, step by step. Assumes nothing.
-use Prim.Native.Nat.{ℕ, suc, ◌+◌, ◌-◌, ◌^◌, ◌≤◌, ◌<◌}
-use mathlib.Core.Path.{◌≡◌, refl, ap, ap₂, sym, ◌∙◌, subst, subst⁻¹}
-use mathlib.Core.List.{List, [], ◌∷◌, ◌++◌, append_assoc, append-nil}
-use mathlib.Core.Bool.{Bool, true, false, cond, ◌&&◌, false≢true}
-use mathlib.Core.Option.{Option, some, none}
-use native.Mathlib.Omega.{arith}
-use borrow.Author.Tests.{lt-ltb, le-ltb, lt-leb, le-leb, eq-eqb, ne_eqb, leb-true}
-use lib.Dec.{T}
-use lib.ListN.{length, get_or, drop}
-use lib.IntN.{ℤ, pos, negsuc, nat_abs}
-use lib.Signed.{le_z, non_neg}
-use mir.Syntax.{w64, w32}
-use mir.Val.{SFits, Fits, to_z, of_z}
-use mir.ValLaws.{to_z_pos}
+use Rattle.std.specs.Prelude.{ℕ, suc, ◌+◌, ◌-◌, ◌^◌, ◌≤◌, ◌<◌, ◌≡◌, refl, List, [], ◌∷◌, ◌++◌, Bool, true, false, cond, ◌&&◌, T, length, get_or, drop, ℤ, pos, negsuc, nat_abs}
+use Rattle.std.specs.Int.Signed.{le_z, non_neg}
+use Rattle.std.specs.Int.{w64, w32}
+use Rattle.std.proofs.Common.{ap, ap₂, sym, ◌∙◌, subst, append_assoc, append-nil, arith, lt-ltb, le-ltb, le-leb, eq-eqb, ne_eqb, leb-true, SFits, Fits, to_z, of_z}
+use Rattle.std.proofs.lemmas.Bool.{false≢true, lt-leb}
+use Rattle.std.proofs.Math.Option.{Option, some, none}
+use Rattle.std.proofs.lemmas.Int.{to_z_pos}
+use mathlib.Core.Path.{subst⁻¹}
 use Rattle.sheet_number.specs.Number.{run, run_end, written, number_at, byte_at, fault_at, judged, Got, got, fault}
 use Rattle.sheet_number.specs.Told.{number}
 use Rattle.sheet_number.specs.Reader.{Reader, after, natural, value, field, each}

@@ -1,16 +1,8 @@
 -- The run of digits and minus signs that starts at a place, and what it writes, one byte further. Assumes nothing.
-use Prim.Native.Nat.{ℕ, ◌+◌, ◌-◌, ◌*◌, ◌≤◌, ◌<◌}
-use mathlib.Core.Path.{◌≡◌, refl, ap, sym, ◌∙◌}
-use mathlib.Core.List.{List, [], ◌∷◌}
-use mathlib.Core.Bool.{Bool, true, false, cond, ◌&&◌, false≢true}
-use mathlib.Core.Option.{some, none}
-use native.Mathlib.Omega.{arith}
-use native.Mathlib.Numerals.{add-one}
-use borrow.Author.Tests.{leb-true, le-leb, eq-eqb, ne_eqb, eqb-true, eqb-false}
-use lib.Dec.{leb, eqb}
-use lib.IntN.{pos}
-use lib.ListN.{length, get_or, drop, drop_of_length-le}
-use lib.Seq.{drop-cons}
+use Rattle.std.specs.Prelude.{ℕ, ◌+◌, ◌-◌, ◌*◌, ◌≤◌, ◌<◌, ◌≡◌, refl, List, [], ◌∷◌, Bool, true, false, cond, ◌&&◌, leb, eqb, pos, length, get_or, drop}
+use Rattle.std.proofs.Common.{ap, sym, ◌∙◌, arith, add-one, leb-true, le-leb, eq-eqb, ne_eqb, eqb-true, drop_of_length-le, drop-cons}
+use Rattle.std.proofs.lemmas.Bool.{false≢true, eqb-false}
+use Rattle.std.proofs.Math.Option.{some, none}
 use Rattle.sheet_number.specs.Number.{is_digit, is_lead, in_run, run, run_end, digits, positive, alone, written, signed, minus}
 
 -- ---- tests

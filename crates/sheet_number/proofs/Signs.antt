@@ -1,17 +1,11 @@
 -- A signed number from its magnitude, at 64 bits. Assumes nothing.
-use Prim.Native.Nat.{ℕ, zero, suc, ◌-◌, ◌^◌, ◌≤◌, ◌<◌, min}
-use mathlib.Core.Path.{◌≡◌, refl, ap, sym, ◌∙◌}
-use mathlib.Core.Bool.{Bool, true, false}
-use mathlib.Core.Option.{Option, some, none}
-use native.Mathlib.Omega.{arith}
-use native.Mathlib.Nat.{zero-add}
-use native.Mathlib.Decide.{dec_lt}
-use borrow.Author.Tests.{lt-ltb, le-ltb}
-use lib.IntN.{ℤ, pos, negsuc, ◌-ℤ◌}
-use lib.Signed.{mag}
-use mir.Syntax.{w64}
-use mir.Val.{SFits, to_z, of_z}
-use mir.ValLaws.{to_z_pos, to_z-of_z}
+use Rattle.std.specs.Prelude.{ℕ, zero, suc, ◌-◌, ◌^◌, ◌≤◌, ◌<◌, min, ◌≡◌, refl, Bool, true, false, ℤ, pos, negsuc, ◌-ℤ◌}
+use Rattle.std.specs.Int.Signed.{mag}
+use Rattle.std.specs.Int.{w64}
+use Rattle.std.proofs.Common.{ap, sym, ◌∙◌, arith, zero-add, lt-ltb, le-ltb, SFits, to_z, of_z}
+use Rattle.std.proofs.Math.Option.{Option, some, none}
+use Rattle.std.proofs.Math.Decide.{dec_lt}
+use Rattle.std.proofs.lemmas.Int.{to_z_pos, to_z-of_z}
 use Rattle.sheet_number.specs.Number.{minus, signed}
 use Rattle.sheet_number.specs.Told.{within, sign_of, cap, capped}
 use Rattle.sheet_number.specs.declared.Digits.{Digits}

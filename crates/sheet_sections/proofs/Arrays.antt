@@ -1,11 +1,8 @@
 -- Sections: a count line, then rows that fill an array from the front. Assumes nothing.
-use Prim.Native.Nat.{ℕ, zero, suc, ◌+◌, ◌-◌, ◌≤◌, ◌<◌}
-use mathlib.Core.Path.{◌≡◌, refl, ap, sym, ◌∙◌}
-use mathlib.Core.List.{List, [], ◌∷◌, ◌++◌}
-use native.Mathlib.Omega.{arith}
-use native.Mathlib.Nat.{add-zero, sub-zero}
-use lib.ListN.{length, set, replicate, length-append}
-use lib.Seq.{sets}
+use Rattle.std.specs.Prelude.{ℕ, zero, suc, ◌+◌, ◌-◌, ◌≤◌, ◌<◌, ◌≡◌, refl, List, [], ◌∷◌, ◌++◌, length, set, replicate}
+use Rattle.std.proofs.Common.{ap, sym, ◌∙◌, arith, add-zero, length-append}
+use Rattle.std.proofs.Math.Nat.{sub-zero}
+use Rattle.std.proofs.lemmas.List.Edits.{sets}
 use Rattle.sheet_form.specs.Held.{filled}
 use Rattle.sheet_number.specs.declared.Fault.{Fault}
 use Rattle.sheet_number.specs.Number.{Got, got, fault}

@@ -1,11 +1,7 @@
 -- Lists of ids in one run. Assumes nothing.
-use Prim.Native.Nat.{ℕ, zero, suc, ◌+◌, ◌-◌, ◌≤◌, ◌<◌}
-use mathlib.Core.Path.{◌≡◌, refl, ap, ap₂, sym, ◌∙◌}
-use mathlib.Core.List.{List, [], ◌∷◌, ◌++◌, append_assoc, append-nil}
-use native.Mathlib.Omega.{arith}
-use native.Mathlib.Nat.{add-zero}
-use lib.ListN.{length, set, replicate, length-append}
-use lib.Seq.{sets}
+use Rattle.std.specs.Prelude.{ℕ, zero, suc, ◌+◌, ◌-◌, ◌≤◌, ◌<◌, ◌≡◌, refl, List, [], ◌∷◌, ◌++◌, length, set, replicate}
+use Rattle.std.proofs.Common.{ap, ap₂, sym, ◌∙◌, append_assoc, append-nil, arith, add-zero, length-append}
+use Rattle.std.proofs.lemmas.List.Edits.{sets}
 use Rattle.sheet_form.specs.declared.Span.{Span}
 use Rattle.sheet_form.specs.Held.{filled, joined, spans}
 use Rattle.sheet_number.specs.declared.Fault.{Fault}

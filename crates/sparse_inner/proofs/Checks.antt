@@ -1,17 +1,9 @@
 -- The tests that a call makes say just what their propositions say: bounds, a state that fits, and a well-formed set. Assumes nothing.
-use mathlib.Core.Path.{◌≡◌, refl}
-use mathlib.Core.Bool.{Bool, true, false, cond, ◌&&◌}
-use mathlib.Core.List.{List}
-use Prim.Native.Nat.{ℕ, suc, ◌+◌, ◌-◌, ◌≤◌, ◌<◌}
-use native.Mathlib.Decide.{ℕ_discrete}
-use native.Mathlib.Omega.{arith}
-use lib.Dec.{ltb, leb, eqb}
-use lib.IntN.{ℤ, pos, negsuc, ◌+ℤ◌}
-use lib.ListN.{length, get_or}
-use lib.Signed.{le_z, mag}
-use mir.Syntax.{w32}
-use mir.Val.{SFits}
-use borrow.Author.Tests.{leb-true, le-leb, ltb-true, ltb-false, eqb-true, eq-eqb, ne_eqb}
+use Rattle.std.specs.Prelude.{◌≡◌, refl, Bool, true, false, cond, ◌&&◌, List, ℕ, suc, ◌+◌, ◌-◌, ◌≤◌, ◌<◌, ltb, leb, eqb, ℤ, pos, negsuc, ◌+ℤ◌, length, get_or}
+use Rattle.std.specs.Int.Signed.{le_z, mag}
+use Rattle.std.specs.Int.{w32}
+use Rattle.std.proofs.Common.{arith, SFits, leb-true, le-leb, ltb-true, ltb-false, eqb-true, eq-eqb, ne_eqb}
+use Rattle.std.proofs.Math.Decide.{ℕ_discrete}
 use Rattle.order.specs.Order.{Inverse, all_b, inverse_b}
 use Rattle.order.proofs.Orders.{and_left, and_right, and_both, all-at, all_of, inverse-of, of-inverse}
 use Rattle.sparse_inner.specs.declared.SparseState.{SparseState}

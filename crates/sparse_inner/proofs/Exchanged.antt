@@ -1,11 +1,7 @@
 -- An offset of the universe exchanged with the one that stands in a cell. Dropping an offset does so with the last cell that is held, adding one
 -- with the first that isn't, and keeping one alone with cell 0. Assumes nothing.
-use mathlib.Core.Path.{◌≡◌, ap, ◌∙◌, subst}
-use mathlib.Core.Logic.{◌≢◌}
-use mathlib.Core.List.{List}
-use Prim.Native.Nat.{ℕ, ◌<◌}
-use native.Mathlib.Omega.{arith}
-use lib.ListN.{length, get_or}
+use Rattle.std.specs.Prelude.{◌≡◌, ◌≢◌, List, ℕ, ◌<◌, length, get_or}
+use Rattle.std.proofs.Common.{ap, ◌∙◌, subst, arith}
 use Rattle.order.specs.Order.{swapped, Inverse}
 use Rattle.order.proofs.Orders.{ind-a, ind-b, ind-other, exchange-inverse}
 use Rattle.sparse_inner.specs.declared.Sparse.{Sparse}

@@ -1,10 +1,6 @@
 -- All dropped but one offset, which is exchanged with cell 0. Assumes nothing.
-use mathlib.Core.Path.{◌≡◌, refl}
-use mathlib.Core.Bool.{Bool, true, false, cond}
-use mathlib.Core.List.{List}
-use Prim.Native.Nat.{ℕ, ◌-◌, ◌<◌}
-use native.Mathlib.Omega.{arith}
-use lib.ListN.{get_or}
+use Rattle.std.specs.Prelude.{◌≡◌, refl, Bool, true, false, cond, List, ℕ, ◌-◌, ◌<◌, get_or}
+use Rattle.std.proofs.Common.{arith}
 use Rattle.order.specs.Order.{swapped}
 use Rattle.order.proofs.Orders.{ind-inj, length-swapped}
 use Rattle.sparse_inner.specs.declared.Sparse.{Sparse}

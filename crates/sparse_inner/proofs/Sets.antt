@@ -1,15 +1,7 @@
 -- The laws of a sparse set: its test of an offset, the bounds that a scan finds, and what dropping an offset leaves. Assumes nothing.
-use mathlib.Core.Path.{◌≡◌, refl, sym, ◌∙◌, subst}
-use mathlib.Core.Logic.{◌≢◌, ◌⊎◌, ⊎_elim, inl, inr}
-use mathlib.Core.Bool.{Bool, true, false, cond}
-use mathlib.Core.List.{List}
-use Prim.Native.Nat.{ℕ, zero, suc, ◌+◌, ◌-◌, ◌≤◌, ◌<◌}
-use native.Mathlib.Decide.{ℕ_discrete}
-use native.Mathlib.Nat.{eq-or-lt_of_le}
-use native.Mathlib.Omega.{arith}
-use lib.Dec.{ltb, eqb}
-use lib.ListN.{get_or}
-use borrow.Author.Tests.{ltb-true, lt-ltb, eq-eqb, ne_eqb}
+use Rattle.std.specs.Prelude.{◌≡◌, refl, ◌≢◌, ◌⊎◌, Bool, true, false, cond, List, ℕ, zero, suc, ◌+◌, ◌-◌, ◌≤◌, ◌<◌, ltb, eqb, get_or}
+use Rattle.std.proofs.Common.{sym, ◌∙◌, subst, ⊎_elim, inl, inr, eq-or-lt_of_le, arith, ltb-true, lt-ltb, eq-eqb, ne_eqb}
+use Rattle.std.proofs.Math.Decide.{ℕ_discrete}
 use Rattle.order.specs.Order.{swapped, Inverse}
 use Rattle.order.proofs.Orders.{and_left, and_right, ind-inj}
 use Rattle.sparse_inner.specs.declared.Sparse.{Sparse}

@@ -1,14 +1,9 @@
 -- The held values one by one, as a loop over the cells takes them. Assumes nothing.
-use mathlib.Core.Path.{◌≡◌, refl, sym, ap, ◌∙◌}
-use mathlib.Core.List.{List, [], ◌∷◌, map}
-use Prim.Native.Nat.{ℕ, zero, suc, ◌+◌, ◌≤◌, ◌<◌}
-use native.Mathlib.Numerals.{add-one}
-use native.Mathlib.Omega.{arith}
-use lib.IntN.{pos}
-use lib.ListN.{length, get_or, take, drop, drop_of_length-le, length-map}
-use lib.Seq.{drop-cons, length-take-le, get_or-take}
-use mir.Syntax.{w32}
-use mir.Val.{SFits}
+use Rattle.std.specs.Prelude.{◌≡◌, refl, List, [], ◌∷◌, map, ℕ, zero, suc, ◌+◌, ◌≤◌, ◌<◌, pos, length, get_or, take, drop}
+use Rattle.std.specs.Int.{w32}
+use Rattle.std.proofs.Common.{sym, ap, ◌∙◌, add-one, arith, drop_of_length-le, drop-cons, length-take-le, SFits}
+use Rattle.std.proofs.lemmas.List.{length-map}
+use lib.Seq.{get_or-take}
 use Rattle.sparse_inner.proofs.Checks.{value-fits}
 use Rattle.sparse_inner.specs.Set.{Full, WellF, value_at, set_of}
 

@@ -1,8 +1,5 @@
 -- The smallest set on which a saved state fits by accident after a union. Assumes nothing.
-use mathlib.Core.Path.{◌≡◌, refl}
-use mathlib.Core.List.{List, [], ◌∷◌}
-use Prim.Native.Nat.{ℕ}
-use lib.IntN.{pos}
+use Rattle.std.specs.Prelude.{◌≡◌, refl, List, [], ◌∷◌, ℕ, pos}
 use Rattle.offset.specs.Places.{clip}
 use Rattle.order.specs.Order.{swapped, all_b, inverse_b}
 use Rattle.rules.specs.declared.Value.{Value}

@@ -1,16 +1,9 @@
 -- What the calls on one set hold after them, value by value. Assumes nothing.
-use mathlib.Core.Path.{◌≡◌, refl, sym, ap, ◌∙◌}
-use mathlib.Core.Bool.{Bool, true, false, not, cond, ◌&&◌}
-use mathlib.Core.Logic.{⊎_elim}
-use Prim.Native.Nat.{ℕ, zero, suc, ◌+◌, ◌-◌, ◌≤◌, ◌<◌}
-use native.Mathlib.Decide.{ℕ_discrete, dec_le}
-use native.Mathlib.Nat.{eq-or-lt_of_le}
-use native.Mathlib.Omega.{arith}
-use lib.Dec.{ltb, leb, eqb}
-use lib.IntN.{ℤ, pos, ◌+ℤ◌, ◌-ℤ◌}
-use lib.ListN.{get_or}
-use lib.Signed.{lt_z, le_z}
-use borrow.Author.Tests.{ltb-true, ltb-false, lt-ltb, le-ltb, le-leb, lt-leb, eq-eqb, ne_eqb}
+use Rattle.std.specs.Prelude.{◌≡◌, refl, Bool, true, false, not, cond, ◌&&◌, ℕ, zero, suc, ◌+◌, ◌-◌, ◌≤◌, ◌<◌, ltb, leb, eqb, ℤ, pos, ◌+ℤ◌, ◌-ℤ◌, get_or}
+use Rattle.std.specs.Int.Signed.{lt_z, le_z}
+use Rattle.std.proofs.Common.{sym, ap, ◌∙◌, ⊎_elim, eq-or-lt_of_le, arith, ltb-true, ltb-false, lt-ltb, le-ltb, le-leb, eq-eqb, ne_eqb}
+use Rattle.std.proofs.Math.Decide.{ℕ_discrete, dec_le}
+use Rattle.std.proofs.lemmas.Bool.{lt-leb}
 use Rattle.offset.specs.Places.{cut_of}
 use Rattle.offset.specs.Universe.{place-value, below-cut, upto-cut, cut-le}
 use Rattle.rules.specs.Sets.{same}

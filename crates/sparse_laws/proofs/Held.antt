@@ -1,17 +1,9 @@
 -- A well-formed set as a plain set: its members are the values of the first cells, each once; their number is the size; the bounds are the smallest
 -- and the largest of them. Assumes nothing.
-use mathlib.Core.Path.{◌≡◌, refl, sym, ap, ◌∙◌, subst}
-use mathlib.Core.Bool.{Bool, true, false}
-use mathlib.Core.List.{[], ◌∷◌}
-use mathlib.Core.Logic.{⊎_elim}
-use Prim.Native.Nat.{ℕ, suc, ◌<◌}
-use native.Mathlib.Decide.{ℕ_discrete}
-use native.Mathlib.Omega.{arith}
-use lib.Dec.{T, eqb}
-use lib.IntN.{ℤ, pos}
-use lib.ListN.{length, get_or}
-use lib.Signed.{le_z}
-use borrow.Author.Tests.{eq-eqb, ne_eqb, le-leb}
+use Rattle.std.specs.Prelude.{◌≡◌, refl, Bool, true, false, [], ◌∷◌, ℕ, suc, ◌<◌, T, eqb, ℤ, pos, length, get_or}
+use Rattle.std.specs.Int.Signed.{le_z}
+use Rattle.std.proofs.Common.{sym, ap, ◌∙◌, subst, ⊎_elim, arith, eq-eqb, ne_eqb, le-leb}
+use Rattle.std.proofs.Math.Decide.{ℕ_discrete}
 use Rattle.offset.specs.Universe.{place-value, value-place, value_inj, value-le}
 use Rattle.rules.specs.Sets.{Chutes, has, same, Different}
 use Rattle.rules.proofs.SetLaws.{has-cons, has-at, same→eq, same_refl}

@@ -1,17 +1,8 @@
 -- What a set holds that was made: all of its universe, or just the values that it was made from. Assumes nothing.
-use mathlib.Core.Path.{◌≡◌, refl, sym, ap, ◌∙◌}
-use mathlib.Core.Bool.{Bool, true, false, not, cond, ◌&&◌}
-use mathlib.Core.List.{List, ◌∷◌}
-use Prim.Native.Nat.{ℕ, zero, suc, ◌+◌, ◌-◌, ◌≤◌, ◌<◌}
-use native.Mathlib.Decide.{ℕ_discrete, dec_le}
-use native.Mathlib.Omega.{arith}
-use native.Mathlib.Nat.{eq-or-lt_of_le}
-use mathlib.Core.Logic.{⊎_elim}
-use lib.Dec.{ltb, eqb}
-use lib.IntN.{ℤ, ◌-ℤ◌}
-use lib.ListN.{get_or}
-use lib.Signed.{le_z}
-use borrow.Author.Tests.{ltb-true, lt-ltb, le-ltb, eq-eqb, ne_eqb}
+use Rattle.std.specs.Prelude.{◌≡◌, refl, Bool, true, false, not, cond, ◌&&◌, List, ◌∷◌, ℕ, zero, suc, ◌+◌, ◌-◌, ◌≤◌, ◌<◌, ltb, eqb, ℤ, ◌-ℤ◌, get_or}
+use Rattle.std.specs.Int.Signed.{le_z}
+use Rattle.std.proofs.Common.{sym, ap, ◌∙◌, arith, eq-or-lt_of_le, ⊎_elim, ltb-true, lt-ltb, le-ltb, eq-eqb, ne_eqb}
+use Rattle.std.proofs.Math.Decide.{ℕ_discrete, dec_le}
 use Rattle.ends.specs.Ends.{smallest_of, largest_of}
 use Rattle.ends.proofs.Firsts.{smallest-least, largest-most}
 use Rattle.offset.specs.Places.{place_of, span_of}

@@ -1,12 +1,8 @@
 -- Each call on a well-formed set, seen through the plain set of held values: it is accepted, it answers and holds what 01 says, and what it leaves is
 -- well formed. Assumes nothing.
-use mathlib.Core.Path.{◌≡◌, sym, ap, ◌∙◌}
-use mathlib.Core.Bool.{Bool, true, false, not, ◌&&◌, ◌||◌}
-use Prim.Native.Nat.{◌-◌, ◌≤◌}
-use lib.IntN.{ℤ, pos, ◌+ℤ◌, ◌-ℤ◌}
-use lib.ListN.{length, set}
-use lib.Signed.{lt_z, le_z}
-use borrow.Author.Tests.{le-ltb}
+use Rattle.std.specs.Prelude.{◌≡◌, Bool, true, false, not, ◌&&◌, ◌||◌, ◌-◌, ◌≤◌, ℤ, pos, ◌+ℤ◌, ◌-ℤ◌, length, set}
+use Rattle.std.specs.Int.Signed.{lt_z, le_z}
+use Rattle.std.proofs.Common.{sym, ap, ◌∙◌, le-ltb}
 use Rattle.offset.specs.Places.{cut_of}
 use Rattle.rules.specs.Sets.{Chutes, has, same}
 use Rattle.rules.specs.declared.Value.{Value}

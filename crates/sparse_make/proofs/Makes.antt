@@ -1,16 +1,9 @@
 -- A universe that has room, all held over the identity, is a well-formed set. Assumes nothing.
-use mathlib.Core.Path.{◌≡◌, refl, sym, ap, ◌∙◌, subst}
-use mathlib.Core.Bool.{Bool, true, false, cond, ◌&&◌}
-use mathlib.Core.List.{List, [], ◌∷◌}
-use Prim.Native.Nat.{ℕ, zero, suc, ◌+◌, ◌-◌, ◌≤◌, ◌<◌}
-use native.Mathlib.Omega.{arith}
-use lib.Dec.{leb, ltb}
-use lib.IntN.{ℤ, pos, negsuc, ◌+ℤ◌, +ℤ_idr}
-use lib.ListN.{length}
-use lib.Signed.{le_z, mag}
-use mir.Syntax.{w32}
-use mir.Val.{SFits}
-use borrow.Author.Tests.{leb-true, le-leb, ltb-true, ltb-false}
+use Rattle.std.specs.Prelude.{◌≡◌, refl, Bool, true, false, cond, ◌&&◌, List, [], ◌∷◌, ℕ, zero, suc, ◌+◌, ◌-◌, ◌≤◌, ◌<◌, leb, ltb, ℤ, pos, negsuc, ◌+ℤ◌, length}
+use Rattle.std.specs.Int.Signed.{le_z, mag}
+use Rattle.std.specs.Int.{w32}
+use Rattle.std.proofs.Common.{sym, ap, ◌∙◌, subst, arith, SFits, leb-true, le-leb, ltb-true, ltb-false}
+use Rattle.std.proofs.Math.IntN.{+ℤ_idr}
 use Rattle.offset.specs.Places.{span_of}
 use Rattle.offset.specs.Universe.{span_last}
 use Rattle.order.specs.Order.{counted}

@@ -1,19 +1,10 @@
 -- Which offsets are among some values, marked one value at a time in the bits of words. Assumes nothing.
-use mathlib.Core.Path.{◌≡◌, refl, sym, ap, ◌∙◌, subst}
-use mathlib.Core.Bool.{Bool, false, ◌||◌}
-use mathlib.Core.List.{List, [], ◌∷◌}
-use Prim.Native.Nat.{ℕ, zero, suc, ◌+◌, ◌-◌, ◌/◌, ◌%◌, ◌^◌, ◌≤◌, ◌<◌, max}
-use native.Mathlib.Decide.{ℕ_discrete}
-use native.Mathlib.Nat.{zero-div}
-use native.Mathlib.Numerals.{add-one}
-use native.Mathlib.Omega.{arith}
-use lib.Bits.{bit_or}
-use lib.Dec.{T, eqb}
-use lib.IntN.{ℤ, pos}
-use lib.ListN.{length, get_or, set, drop, drop_of_length-le, length-set}
-use lib.Seq.{get_or-set_same, get_or-set_other, drop-cons}
-use borrow.Author.Tests.{eq-eqb, ne_eqb}
-use mathlib.Core.Logic.{◌⊎◌, inl, inr, ⊎_elim}
+use Rattle.std.specs.Prelude.{◌≡◌, refl, Bool, false, ◌||◌, List, [], ◌∷◌, ℕ, zero, suc, ◌+◌, ◌-◌, ◌/◌, ◌%◌, ◌^◌, ◌≤◌, ◌<◌, max, T, eqb, ℤ, pos, length, get_or, set, drop, ◌⊎◌}
+use Rattle.std.specs.Int.Bits.{bit_or}
+use Rattle.std.proofs.Common.{sym, ap, ◌∙◌, subst, add-one, arith, drop_of_length-le, length-set, drop-cons, eq-eqb, ne_eqb, inl, inr, ⊎_elim}
+use Rattle.std.proofs.Math.Decide.{ℕ_discrete}
+use Rattle.std.proofs.Math.Nat.{zero-div}
+use lib.Seq.{get_or-set_same, get_or-set_other}
 use Rattle.mask.specs.Bit.{bit, bit-or, bit-pow-same, bit-pow-below, bit-pow-above}
 use Rattle.offset.specs.Universe.{place-value, value-place, value_inj}
 use Rattle.rules.specs.Sets.{Chutes, has, same}

@@ -1,15 +1,7 @@
 -- What additions leave of the order: each new value comes behind those that are held. Assumes nothing.
-use mathlib.Core.Path.{◌≡◌, refl, sym, ap, ◌∙◌, subst}
-use mathlib.Core.Bool.{Bool, true, false, not, cond, ◌&&◌, ◌||◌}
-use mathlib.Core.List.{List, [], ◌∷◌, ◌++◌, map, map-append, append_assoc, append-nil}
-use Prim.Native.Nat.{ℕ, ◌+◌, ◌≤◌, ◌<◌}
-use native.Mathlib.Numerals.{add-one}
-use native.Mathlib.Omega.{arith}
-use lib.Dec.{T, ltb, T_not}
-use lib.IntN.{ℤ, ◌-ℤ◌}
-use lib.ListN.{length, get_or, take, set, length-set}
-use lib.Seq.{take-suc-set, take-set-le}
-use borrow.Author.Tests.{ltb-true}
+use Rattle.std.specs.Prelude.{◌≡◌, refl, Bool, true, false, not, cond, ◌&&◌, ◌||◌, List, [], ◌∷◌, ◌++◌, map, ℕ, ◌+◌, ◌≤◌, ◌<◌, T, ltb, ℤ, ◌-ℤ◌, length, get_or, take, set}
+use Rattle.std.proofs.Common.{sym, ap, ◌∙◌, subst, append_assoc, append-nil, add-one, arith, T_not, length-set, take-suc-set, ltb-true}
+use Rattle.std.proofs.lemmas.List.{map-append, take-set-le}
 use Rattle.offset.specs.Places.{place_of}
 use Rattle.offset.specs.Universe.{place-value}
 use Rattle.order.specs.Order.{swapped}

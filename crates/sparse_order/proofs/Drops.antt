@@ -1,12 +1,8 @@
 -- What drops leave of the order: the last held value takes the place of each dropped one, one after the other. Assumes nothing.
-use mathlib.Core.Path.{◌≡◌, refl, sym, ap, ◌∙◌}
-use mathlib.Core.Bool.{Bool, true, false, cond}
-use mathlib.Core.List.{List, [], ◌∷◌, ◌++◌, map, map-append, append-nil}
-use Prim.Native.Nat.{ℕ, zero, suc, ◌+◌, ◌-◌, ◌≤◌, ◌<◌}
-use native.Mathlib.Omega.{arith}
-use lib.IntN.{ℤ, pos, ◌+ℤ◌, ◌-ℤ◌}
-use lib.ListN.{length, get_or, take, set, length-set}
-use lib.Seq.{take-take, take-suc, take-suc-set, take-set-lt}
+use Rattle.std.specs.Prelude.{◌≡◌, refl, Bool, true, false, cond, List, [], ◌∷◌, ◌++◌, map, ℕ, zero, suc, ◌+◌, ◌-◌, ◌≤◌, ◌<◌, ℤ, pos, ◌+ℤ◌, ◌-ℤ◌, length, get_or, take, set}
+use Rattle.std.proofs.Common.{sym, ap, ◌∙◌, append-nil, arith, length-set, take-take, take-suc, take-suc-set}
+use Rattle.std.proofs.lemmas.List.{map-append}
+use lib.Seq.{take-set-lt}
 use Rattle.offset.specs.Places.{place_of}
 use Rattle.offset.specs.Universe.{place-value, value-place, value_inj}
 use Rattle.order.specs.Order.{swapped}

@@ -1,12 +1,6 @@
 -- The laws of taking values out of a plain list. Assumes nothing.
-use mathlib.Core.Path.{◌≡◌, refl, sym, ap, subst}
-use mathlib.Core.Bool.{Bool, true, false, cond, ◌||◌}
-use mathlib.Core.List.{List, [], ◌∷◌, ◌++◌, map}
-use Prim.Native.Nat.{ℕ, zero, suc, ◌+◌, ◌≤◌, ◌<◌}
-use native.Mathlib.Omega.{arith}
-use lib.Dec.{T, T_not}
-use lib.IntN.{ℤ, pos}
-use lib.ListN.{length, get_or, take, set}
+use Rattle.std.specs.Prelude.{◌≡◌, refl, Bool, true, false, cond, ◌||◌, List, [], ◌∷◌, ◌++◌, map, ℕ, zero, suc, ◌+◌, ◌≤◌, ◌<◌, T, ℤ, pos, length, get_or, take, set}
+use Rattle.std.proofs.Common.{sym, ap, subst, arith, T_not}
 use Rattle.rules.specs.Sets.{Chutes, has, same, keep, Different}
 use Rattle.rules.proofs.SetLaws.{keep-within, same→eq, same_refl, has-head, has-tail}
 use Rattle.rules.proofs.Tests.{is_true, is_false}

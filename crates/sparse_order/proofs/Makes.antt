@@ -1,16 +1,9 @@
 -- The order in which a set is made: ascending, and from values the absent ones are taken out of it in ascending order. Assumes nothing.
-use mathlib.Core.Path.{◌≡◌, refl, sym, ap, ◌∙◌, subst}
-use mathlib.Core.Bool.{Bool, true, not}
-use mathlib.Core.List.{List, [], ◌∷◌, ◌++◌, map, map-append}
-use Prim.Native.Nat.{ℕ, zero, suc, ◌+◌, ◌≤◌}
-use native.Mathlib.Omega.{arith}
-use lib.Dec.{T}
-use lib.IntN.{ℤ, pos, ◌+ℤ◌}
-use lib.ListN.{length, take, drop_of_length-le}
-use lib.Signed.{lt_z}
-use lib.Seq.{take-suc-set, length-take-le}
-use mir.Syntax.{w32}
-use mir.Val.{SFits}
+use Rattle.std.specs.Prelude.{◌≡◌, refl, Bool, true, not, List, [], ◌∷◌, ◌++◌, map, ℕ, zero, suc, ◌+◌, ◌≤◌, T, ℤ, pos, ◌+ℤ◌, length, take}
+use Rattle.std.specs.Int.Signed.{lt_z}
+use Rattle.std.specs.Int.{w32}
+use Rattle.std.proofs.Common.{sym, ap, ◌∙◌, subst, arith, drop_of_length-le, take-suc-set, length-take-le, SFits}
+use Rattle.std.proofs.lemmas.List.{map-append}
 use Rattle.ends.specs.Ends.{smallest_of, largest_of}
 use Rattle.ends.proofs.Firsts.{first-in}
 use Rattle.offset.specs.Places.{span_of}

@@ -1,17 +1,8 @@
 -- No call writes a cell past n, whatever it is lent: only places of the universe are exchanged, and only in sets that are well formed. Assumes nothing.
-use mathlib.Core.Path.{◌≡◌, refl, ◌∙◌, subst}
-use mathlib.Core.Bool.{Bool, true, false, not, cond}
-use mathlib.Core.List.{List, [], ◌∷◌}
-use Prim.Native.Nat.{ℕ, zero, suc, ◌+◌, ◌-◌, ◌≤◌, ◌<◌}
-use native.Mathlib.Omega.{arith}
-use lib.Dec.{T, ltb}
-use lib.IntN.{ℤ, pos, ◌+ℤ◌, ◌-ℤ◌}
-use lib.ListN.{length, get_or, set, drop}
-use lib.Seq.{drop-set-lt}
-use lib.Signed.{lt_z}
-use mir.Syntax.{w32}
-use mir.Val.{SFits}
-use borrow.Author.Tests.{ltb-true}
+use Rattle.std.specs.Prelude.{◌≡◌, refl, Bool, true, false, not, cond, List, [], ◌∷◌, ℕ, zero, suc, ◌+◌, ◌-◌, ◌≤◌, ◌<◌, T, ltb, ℤ, pos, ◌+ℤ◌, ◌-ℤ◌, length, get_or, set, drop}
+use Rattle.std.specs.Int.Signed.{lt_z}
+use Rattle.std.specs.Int.{w32}
+use Rattle.std.proofs.Common.{◌∙◌, subst, arith, drop-set-lt, SFits, ltb-true}
 use Rattle.ends.specs.Ends.{smallest_of, largest_of}
 use Rattle.ends.proofs.Firsts.{first-in}
 use Rattle.offset.specs.Places.{cut_of, span_of}

@@ -1,18 +1,9 @@
 -- The order of the values that are not held: a dropped one comes to stand in front of them, and of the added ones each gives its place to their first.
 -- Assumes nothing.
-use mathlib.Core.Path.{◌≡◌, refl, sym, ap, ◌∙◌, subst}
-use mathlib.Core.Logic.{⊎_elim}
-use mathlib.Core.Bool.{Bool, true, false, not, cond, ◌&&◌}
-use mathlib.Core.List.{List, [], ◌∷◌, ◌++◌, map, map-append, append-nil}
-use Prim.Native.Nat.{ℕ, zero, suc, ◌+◌, ◌-◌, ◌≤◌, ◌<◌}
-use native.Mathlib.Nat.{eq-or-lt_of_le}
-use native.Mathlib.Numerals.{add-one}
-use native.Mathlib.Omega.{arith}
-use lib.Dec.{T, T_not}
-use lib.IntN.{ℤ, pos, ◌+ℤ◌}
-use lib.ListN.{length, get_or, take, drop, set, length-set, length-drop, length-map, take-append-drop}
-use lib.Seq.{drop-append-le, drop-set-add, get_or-drop, take-set-lt, drop-set-lt, drop-cons, get_or-set_same, get_or-take, length-take-le, take-take}
-use borrow.Author.Tests.{ne_eqb, ltb-true, lt-ltb, le-ltb}
+use Rattle.std.specs.Prelude.{◌≡◌, refl, Bool, true, false, not, cond, ◌&&◌, List, [], ◌∷◌, ◌++◌, map, ℕ, zero, suc, ◌+◌, ◌-◌, ◌≤◌, ◌<◌, T, ℤ, pos, ◌+ℤ◌, length, get_or, take, drop, set}
+use Rattle.std.proofs.Common.{sym, ap, ◌∙◌, subst, ⊎_elim, append-nil, eq-or-lt_of_le, add-one, arith, T_not, length-set, length-drop, take-append-drop, drop-set-lt, drop-cons, length-take-le, take-take, ne_eqb, ltb-true, lt-ltb, le-ltb}
+use Rattle.std.proofs.lemmas.List.{map-append, length-map, drop-append-le, drop-set-add}
+use lib.Seq.{get_or-drop, take-set-lt, get_or-set_same, get_or-take}
 use Rattle.offset.specs.Universe.{place-value, value-place, value_inj}
 use Rattle.order.specs.Order.{swapped}
 use Rattle.order.proofs.Orders.{length-swapped}

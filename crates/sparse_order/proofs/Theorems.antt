@@ -1,17 +1,9 @@
 -- Each call on well-formed sets, seen through the order of the held values (`set_of`, the values of the first `size` cells): what stands where after it.
 -- Assumes nothing.
-use mathlib.Core.Path.{◌≡◌, sym, ap, ◌∙◌}
-use mathlib.Core.Bool.{Bool, true, false, not, cond, ◌&&◌}
-use mathlib.Core.List.{List, [], ◌∷◌, ◌++◌}
-use Prim.Native.Nat.{ℕ, ◌-◌, ◌≤◌, ◌<◌}
-use native.Mathlib.Omega.{arith}
-use lib.Dec.{T}
-use lib.IntN.{ℤ, pos, ◌+ℤ◌, ◌-ℤ◌}
-use lib.ListN.{length, get_or, drop}
-use lib.Signed.{lt_z, le_z}
-use mir.Syntax.{w32}
-use mir.Val.{SFits}
-use borrow.Author.Tests.{ne_eqb, le-ltb, ltb-true, ltb-false}
+use Rattle.std.specs.Prelude.{◌≡◌, Bool, true, false, not, cond, ◌&&◌, List, [], ◌∷◌, ◌++◌, ℕ, ◌-◌, ◌≤◌, ◌<◌, T, ℤ, pos, ◌+ℤ◌, ◌-ℤ◌, length, get_or, drop}
+use Rattle.std.specs.Int.Signed.{lt_z, le_z}
+use Rattle.std.specs.Int.{w32}
+use Rattle.std.proofs.Common.{sym, ap, ◌∙◌, arith, SFits, ne_eqb, le-ltb, ltb-true, ltb-false}
 use Rattle.ends.specs.Ends.{smallest_of, largest_of}
 use Rattle.offset.specs.Places.{cut_of, span_of}
 use Rattle.offset.specs.Universe.{place-value, cut-le, below-cut, upto-cut, le_not_lt}

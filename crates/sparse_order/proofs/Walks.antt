@@ -1,14 +1,8 @@
 -- A cursor's whole walk yields the values of its cells in their order, and ends. Assumes nothing.
-use mathlib.Core.Path.{◌≡◌, refl, sym, ap, ◌∙◌, subst}
-use mathlib.Core.List.{[], ◌∷◌, map}
-use Prim.Native.Nat.{ℕ, zero, suc, ◌+◌, ◌-◌, ◌≤◌, ◌<◌}
-use native.Mathlib.Decide.{dec_le}
-use native.Mathlib.Numerals.{add-one}
-use native.Mathlib.Omega.{arith}
-use lib.IntN.{ℤ}
-use lib.ListN.{length, take, drop, drop_of_length-le}
-use lib.Seq.{drop-cons, get_or-take, length-take-le}
-use borrow.Author.Tests.{lt-ltb, le-ltb}
+use Rattle.std.specs.Prelude.{◌≡◌, refl, [], ◌∷◌, map, ℕ, zero, suc, ◌+◌, ◌-◌, ◌≤◌, ◌<◌, ℤ, length, take, drop}
+use Rattle.std.proofs.Common.{sym, ap, ◌∙◌, subst, add-one, arith, drop_of_length-le, drop-cons, length-take-le, lt-ltb, le-ltb}
+use Rattle.std.proofs.Math.Decide.{dec_le}
+use lib.Seq.{get_or-take}
 use Rattle.rules.specs.Sets.{Chutes}
 use Rattle.rules.specs.declared.Value.{Value}
 use Rattle.sparse_inner.specs.Set.{Full, WellF, value_at, set_of}

@@ -1,7 +1,5 @@
 -- The texts at the ends: nothing held, all held, a universe of none. Assumes nothing.
-use mathlib.Core.Path.{◌≡◌, refl}
-use mathlib.Core.List.{[], ◌∷◌}
-use lib.IntN.{pos, negsuc}
+use Rattle.std.specs.Prelude.{◌≡◌, refl, [], ◌∷◌, pos, negsuc}
 use Rattle.decimal.specs.Decimal.{digits, natural, decimal}
 use Rattle.sparse_inner.specs.Set.{full}
 use Rattle.sparse_text.specs.Text.{before, listed, closing, text_of}

@@ -1,18 +1,7 @@
 -- The text piece by piece, and how long it can be. Assumes nothing.
-use mathlib.Core.Path.{◌≡◌, sym, ap, ◌∙◌}
-use mathlib.Core.Bool.{Bool, true, false, cond}
-use mathlib.Core.List.{List, [], ◌∷◌, ◌++◌}
-use mathlib.Core.Logic.{⊎_elim}
-use Prim.Native.Nat.{ℕ, zero, suc, ◌+◌, ◌^◌, ◌≤◌, ◌<◌}
-use native.Mathlib.Nat.{eq-or-lt_of_le}
-use native.Mathlib.Numerals.{add-one}
-use native.Mathlib.Omega.{arith}
-use lib.Dec.{eqb}
-use lib.IntN.{ℤ, pos, negsuc, nat_abs}
-use lib.ListN.{length, set, length-append}
-use borrow.Author.Tests.{eq-eqb, ne_eqb}
-use mir.Syntax.{w32}
-use mir.Val.{SFits}
+use Rattle.std.specs.Prelude.{◌≡◌, Bool, true, false, cond, List, [], ◌∷◌, ◌++◌, ℕ, zero, suc, ◌+◌, ◌^◌, ◌≤◌, ◌<◌, eqb, ℤ, pos, negsuc, nat_abs, length, set}
+use Rattle.std.specs.Int.{w32}
+use Rattle.std.proofs.Common.{sym, ap, ◌∙◌, ⊎_elim, eq-or-lt_of_le, add-one, arith, length-append, eq-eqb, ne_eqb, SFits}
 use Rattle.decimal.specs.Decimal.{decimal}
 use Rattle.decimal.specs.Put.{put_of}
 use Rattle.decimal.proofs.Digits.{decimal-few}

@@ -1,14 +1,8 @@
 -- A chute in half a word: every i32 has a place there, every half is the place of an i32, and a word of two halves comes apart again. Assumes nothing.
-use mathlib.Core.Path.{◌≡◌, refl, sym, ap, ◌∙◌}
-use mathlib.Core.Bool.{Bool, true, false, ◌&&◌}
-use Prim.Native.Nat.{ℕ, zero, suc, ◌+◌, ◌*◌, ◌^◌, ◌/◌, ◌%◌, ◌<◌}
-use native.Mathlib.Omega.{arith}
-use lib.Dec.{eqb, ltb}
-use lib.IntN.{ℤ, pos, negsuc, ◌-ℤ◌}
-use lib.Signed.{le_z}
-use mir.Syntax.{w32}
-use mir.Val.{SFits, to_z, of_z}
-use borrow.Author.Tests.{le-leb, ltb-true}
+use Rattle.std.specs.Prelude.{◌≡◌, refl, Bool, true, false, ◌&&◌, ℕ, zero, suc, ◌+◌, ◌*◌, ◌^◌, ◌/◌, ◌%◌, ◌<◌, eqb, ltb, ℤ, pos, negsuc, ◌-ℤ◌}
+use Rattle.std.specs.Int.Signed.{le_z}
+use Rattle.std.specs.Int.{w32}
+use Rattle.std.proofs.Common.{sym, ap, ◌∙◌, arith, SFits, to_z, of_z, le-leb, ltb-true}
 use Rattle.offset.specs.Places.{place_of, span_of}
 use Rattle.offset.specs.Wide.{read32}
 use Rattle.offset.specs.Universe.{place-range, place-value, value-place, value_in}

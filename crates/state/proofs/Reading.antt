@@ -1,15 +1,7 @@
 -- Rows that are read one by one from a run of words. Assumes nothing.
-use mathlib.Core.Path.{◌≡◌, refl, sym, ap, ◌∙◌}
-use mathlib.Core.List.{List, ◌∷◌}
-use mathlib.Core.Bool.{Bool, true, false}
-use Prim.Native.Nat.{ℕ, zero, suc, ◌+◌, ◌*◌, ◌^◌, ◌≤◌, ◌<◌}
-use native.Mathlib.Nat.{not-suc-le-zero, le_of_suc-le-suc}
-use native.Mathlib.Omega.{arith}
-use borrow.Author.Count.{below_more}
-use borrow.Author.Tests.{ltb-true, lt-ltb, le-ltb}
-use lib.Dec.{ltb}
-use lib.ListN.{length, get_or, take, drop, set}
-use lib.Seq.{drop-cons, ext_get_or, get_or-set_same, get_or-set_other}
+use Rattle.std.specs.Prelude.{◌≡◌, refl, List, ◌∷◌, Bool, true, false, ℕ, zero, suc, ◌+◌, ◌*◌, ◌^◌, ◌≤◌, ◌<◌, ltb, length, get_or, take, drop, set}
+use Rattle.std.proofs.Common.{sym, ap, ◌∙◌, not-suc-le-zero, le_of_suc-le-suc, arith, below_more, ltb-true, lt-ltb, le-ltb, drop-cons}
+use lib.Seq.{ext_get_or, get_or-set_same, get_or-set_other}
 use Rattle.rules.proofs.Tests.{and_left, and_right, and-false, is_true, true-is}
 use Rattle.saved.specs.Upto.{upto}
 use Rattle.saved.proofs.UptoLaws.{each, all, one-fails}

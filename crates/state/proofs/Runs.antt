@@ -1,12 +1,8 @@
 -- Runs of words: the words of rows by place, and what a run of stores leaves. Assumes nothing.
-use mathlib.Core.Path.{◌≡◌, refl, sym, ap, ◌∙◌}
-use mathlib.Core.List.{List, [], ◌∷◌, ◌++◌}
-use Prim.Native.Nat.{ℕ, zero, suc, ◌+◌, ◌*◌, ◌≤◌, ◌<◌}
-use native.Mathlib.Nat.{not-suc-le-zero, le_of_suc-le-suc}
-use native.Mathlib.Numerals.{add-one}
-use native.Mathlib.Omega.{arith}
-use lib.ListN.{length, get_or, drop, set}
-use lib.Seq.{drop-cons, get_or-drop, sets}
+use Rattle.std.specs.Prelude.{◌≡◌, refl, List, [], ◌∷◌, ◌++◌, ℕ, zero, suc, ◌+◌, ◌*◌, ◌≤◌, ◌<◌, length, get_or, drop, set}
+use Rattle.std.proofs.Common.{sym, ap, ◌∙◌, not-suc-le-zero, le_of_suc-le-suc, add-one, arith, drop-cons}
+use Rattle.std.proofs.lemmas.List.Edits.{sets}
+use lib.Seq.{get_or-drop}
 use Rattle.board.specs.Rows.{row0, row_at}
 use Rattle.board.specs.declared.Row.{Row}
 use Rattle.state.specs.Layout.{start, row_words, rows_words}

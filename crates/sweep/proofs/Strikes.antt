@@ -1,10 +1,6 @@
 -- When a place is struck: where the mask stays, and where another is put. Assumes nothing.
-use mathlib.Core.Path.{◌≡◌, refl, sym, ap, ◌∙◌, subst}
-use mathlib.Core.Bool.{Bool, true, false, not, ◌&&◌}
-use mathlib.Core.List.{List}
-use Prim.Native.Nat.{ℕ, ◌<◌}
-use lib.Dec.{eqb}
-use lib.IntN.{ℤ}
+use Rattle.std.specs.Prelude.{◌≡◌, refl, Bool, true, false, not, ◌&&◌, List, ℕ, ◌<◌, eqb, ℤ}
+use Rattle.std.proofs.Common.{sym, ap, ◌∙◌, subst}
 use Rattle.mask.specs.Val.{val}
 use Rattle.mask.specs.declared.Mask.{Mask}
 use Rattle.rules.specs.Sets.{Chutes, some, strike}

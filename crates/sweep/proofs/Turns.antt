@@ -1,17 +1,10 @@
 -- The listed domains place by place: a change at one place, and a turn of a sweep. Assumes nothing.
-use mathlib.Core.Path.{◌≡◌, refl, sym, ap, ap₂, ◌∙◌, subst}
-use mathlib.Core.Bool.{Bool, true, false, not, ◌&&◌, ◌||◌, cond, true≢false}
-use mathlib.Core.List.{List, [], ◌∷◌, append-nil}
-use Prim.Native.Nat.{ℕ, zero, suc, ◌/◌, ◌^◌, ◌≤◌, ◌<◌}
-use native.Mathlib.Nat.{div-one, div-div-eq-div-mul, pow-suc, le_of_suc-le-suc, not-suc-le-zero}
-use native.Mathlib.Decide.{ℕ_discrete}
-use native.Mathlib.Omega.{arith}
-use lib.Count.{ones}
-use lib.ListN.{length, get_or, set, take, drop, length-set, drop_of_length-le}
-use lib.Seq.{get_or-set_same, get_or-set_other, ext_get_or, take_all}
-use lib.Dec.{T, eqb}
-use lib.IntN.{ℤ, pos, ◌+ℤ◌}
-use borrow.Author.Tests.{ltb-false}
+use Rattle.std.specs.Prelude.{◌≡◌, refl, Bool, true, false, not, ◌&&◌, ◌||◌, cond, List, [], ◌∷◌, ℕ, zero, suc, ◌/◌, ◌^◌, ◌≤◌, ◌<◌, length, get_or, set, take, drop, T, eqb, ℤ, pos, ◌+ℤ◌}
+use Rattle.std.specs.Int.Count.{ones}
+use Rattle.std.proofs.Common.{sym, ap, ap₂, ◌∙◌, subst, true≢false, append-nil, div-one, pow-suc, le_of_suc-le-suc, not-suc-le-zero, arith, length-set, drop_of_length-le, take_all, ltb-false}
+use Rattle.std.proofs.Math.Decide.{ℕ_discrete}
+use native.Mathlib.Nat.{div-div-eq-div-mul}
+use lib.Seq.{get_or-set_same, get_or-set_other, ext_get_or}
 use Rattle.mask.specs.Bit.{bit, bit-low, bit-half}
 use Rattle.mask.specs.Val.{val}
 use Rattle.mask.specs.Sets.{In}

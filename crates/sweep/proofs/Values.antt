@@ -1,14 +1,7 @@
 -- What is struck from a mask's values: by its bits, one value and several, and whether anything is lost. Assumes nothing.
-use mathlib.Core.Path.{◌≡◌, refl, sym, ap, ◌∙◌, subst}
-use mathlib.Core.Bool.{Bool, true, false, not, ◌&&◌, ◌||◌, cond}
-use mathlib.Core.List.{[], ◌∷◌, ◌++◌}
-use mathlib.Core.Logic.{⊎_elim}
-use Prim.Native.Nat.{ℕ, suc, ◌-◌, ◌^◌, ◌≤◌, ◌<◌}
-use native.Mathlib.Omega.{arith}
-use lib.Dec.{T, T_not, not_T}
-use lib.ListN.{length}
-use lib.IntN.{ℤ, pos, ◌+ℤ◌, ◌-ℤ◌}
-use borrow.Author.Tests.{ltb-false}
+use Rattle.std.specs.Prelude.{◌≡◌, refl, Bool, true, false, not, ◌&&◌, ◌||◌, cond, [], ◌∷◌, ◌++◌, ℕ, suc, ◌-◌, ◌^◌, ◌≤◌, ◌<◌, T, length, ℤ, pos, ◌+ℤ◌, ◌-ℤ◌}
+use Rattle.std.proofs.Common.{sym, ap, ◌∙◌, subst, ⊎_elim, arith, T_not, ltb-false}
+use lib.Dec.{not_T}
 use Rattle.mask.specs.Bit.{bit_minus}
 use Rattle.mask.specs.Val.{val, offsets, Fit, val-lt}
 use Rattle.mask.specs.Sets.{In, in-minus, in_without, in-lt}

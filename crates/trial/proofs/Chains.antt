@@ -1,14 +1,7 @@
 -- What holds of every chain of public calls, whichever they are: the rules tell the board after it and every answer, it stays well formed, and while a
 -- mark is open the destinations, their order and their universes stay.
-use mathlib.Core.Path.{◌≡◌, refl, sym, ap, ◌∙◌, subst}
-use mathlib.Core.Bool.{Bool, true, false}
-use mathlib.Core.List.{List, [], ◌∷◌}
-use mathlib.Core.Logic.{◌↔◌}
-use Prim.Native.Nat.{ℕ, ◌<◌}
-use native.Mathlib.Omega.{arith}
-use borrow.Author.Tests.{ltb-true, ltb-false}
-use lib.Dec.{T, ltb}
-use lib.IntN.{ℤ}
+use Rattle.std.specs.Prelude.{◌≡◌, refl, Bool, true, false, List, [], ◌∷◌, ◌↔◌, ℕ, ◌<◌, T, ltb, ℤ}
+use Rattle.std.proofs.Common.{sym, ap, ◌∙◌, subst, arith, ltb-true, ltb-false}
 use Rattle.rules.specs.Sets.{has, Every, Different}
 use Rattle.rules.specs.Pass.{pass, Fits}
 use Rattle.rules.specs.Board as rules

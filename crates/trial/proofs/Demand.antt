@@ -2,15 +2,8 @@
 -- allow exactly the ways that those at the mark allow and that the work in force permits (`trial-exact`); the destinations, their order and their
 -- universes stay (`trial-alike`); restoring the mark gives every domain back, bit for bit, and the older marks with them (`trial-restored`); keeping
 -- it leaves every domain, and the older marks (`trial-kept`); an inconsistent answer refutes (`trial-refutes`). Each follows from the rules' theorem through the view.
-use mathlib.Core.Path.{◌≡◌, refl, sym, ap, ◌∙◌, subst}
-use mathlib.Core.Bool.{Bool, true, false}
-use mathlib.Core.List.{List, [], ◌∷◌, map}
-use Prim.Native.Nat.{ℕ, suc, ◌+◌, ◌<◌}
-use native.Mathlib.Numerals.{add-one}
-use native.Mathlib.Omega.{arith}
-use borrow.Author.Tests.{ltb-true, ltb-false, lt-ltb}
-use lib.Dec.{T, ltb}
-use lib.ListN.{length}
+use Rattle.std.specs.Prelude.{◌≡◌, refl, Bool, true, false, List, [], ◌∷◌, map, ℕ, suc, ◌+◌, ◌<◌, T, ltb, length}
+use Rattle.std.proofs.Common.{sym, ap, ◌∙◌, subst, add-one, arith, ltb-true, ltb-false, lt-ltb}
 use Rattle.rules.specs.Sets.{some, Every, Different}
 use Rattle.rules.specs.Board as rules
 use Rattle.rules.specs.Trial.{Way, Allowed, Differs, Permits, trial, after, log}

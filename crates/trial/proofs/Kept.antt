@@ -1,12 +1,7 @@
 -- What saving changes and leaves of the saved masks, and what bringing back changes and leaves of the rows, place by place.
-use mathlib.Core.Path.{◌≡◌, refl, sym, ap, ◌∙◌}
-use mathlib.Core.List.{List, ◌∷◌}
-use mathlib.Core.Logic.{⊎_elim}
-use Prim.Native.Nat.{ℕ, zero, suc, ◌<◌, ◌≤◌}
-use native.Mathlib.Decide.{ℕ_discrete}
-use native.Mathlib.Nat.{eq-or-lt_of_le, le_of_suc-le-suc, not-suc-le-zero}
-use native.Mathlib.Omega.{arith}
-use lib.ListN.{length, length-set}
+use Rattle.std.specs.Prelude.{◌≡◌, refl, List, ◌∷◌, ℕ, zero, suc, ◌<◌, ◌≤◌, length}
+use Rattle.std.proofs.Common.{sym, ap, ◌∙◌, ⊎_elim, eq-or-lt_of_le, le_of_suc-le-suc, not-suc-le-zero, arith, length-set}
+use Rattle.std.proofs.Math.Decide.{ℕ_discrete}
 use Rattle.domain.specs.Set.{values_of}
 use Rattle.domain.specs.declared.BitDomain.{BitDomain}
 use Rattle.saved.specs.Saved.{saved_at, put_at}

@@ -1,12 +1,7 @@
 -- How deep a trial is: what the rules note of it has a part for each mark that is open, from the trial's own on; so while more marks are open than
 -- before it, something is noted.
-use mathlib.Core.Path.{◌≡◌, sym, ap, ◌∙◌, subst}
-use mathlib.Core.Bool.{Bool, true, false, cond}
-use mathlib.Core.List.{List, [], ◌∷◌}
-use Prim.Native.Nat.{ℕ, suc, ◌+◌, ◌<◌}
-use native.Mathlib.Omega.{arith}
-use lib.Dec.{T}
-use lib.ListN.{length}
+use Rattle.std.specs.Prelude.{◌≡◌, Bool, true, false, cond, List, [], ◌∷◌, ℕ, suc, ◌+◌, ◌<◌, T, length}
+use Rattle.std.proofs.Common.{sym, ap, ◌∙◌, subst, arith}
 use Rattle.rules.specs.Sets.{some, Every}
 use Rattle.rules.specs.Board as rules
 use Rattle.rules.specs.Trial.{Work, Log, note, log}

@@ -1,13 +1,6 @@
 -- What the code of the three calls makes of `look`'s answer is what the definitions say: a refused call goes through no row and leaves the marks.
-use mathlib.Core.Path.{◌≡◌, refl, ap}
-use mathlib.Core.Bool.{Bool, true, false, cond}
-use mathlib.Core.List.{List}
-use mathlib.Core.Logic.{◌⊎◌, inl, inr, ⊎_elim}
-use Prim.Native.Nat.{ℕ, ◌+◌, ◌-◌, ◌<◌, ◌≤◌}
-use native.Mathlib.Nat.{not-suc-le-zero}
-use native.Mathlib.Omega.{arith}
-use lib.Dec.{eqb, ltb}
-use borrow.Author.Tests.{eq-eqb, ne_eqb, ltb-false}
+use Rattle.std.specs.Prelude.{◌≡◌, refl, Bool, true, false, cond, List, ◌⊎◌, ℕ, ◌+◌, ◌-◌, ◌<◌, ◌≤◌, eqb, ltb}
+use Rattle.std.proofs.Common.{ap, inl, inr, ⊎_elim, not-suc-le-zero, arith, eq-eqb, ne_eqb, ltb-false}
 use Rattle.rules.specs.declared.Refusal.TheVariants.{TooDeep, NoMark}
 use Rattle.domain.specs.declared.Outcome.{Outcome}
 use Rattle.board.specs.Well.{well_board, look_of, broken}

@@ -1,13 +1,6 @@
 -- Mark, restore and keep do as the rules say, on every well-formed board; one that isn't comes back as it came.
-use mathlib.Core.Path.{◌≡◌, refl, sym, ap, ◌∙◌, subst}
-use mathlib.Core.Bool.{Bool, true, false, cond}
-use mathlib.Core.List.{List, [], ◌∷◌}
-use Prim.Native.Nat.{ℕ, suc, ◌+◌, ◌-◌, ◌^◌, ◌<◌, ◌≤◌}
-use native.Mathlib.Numerals.{add-one}
-use native.Mathlib.Omega.{arith}
-use borrow.Author.Tests.{ltb-true, ltb-false, lt-ltb, le-ltb}
-use lib.Dec.{ltb}
-use lib.ListN.{length}
+use Rattle.std.specs.Prelude.{◌≡◌, refl, Bool, true, false, cond, List, [], ◌∷◌, ℕ, suc, ◌+◌, ◌-◌, ◌^◌, ◌<◌, ◌≤◌, ltb, length}
+use Rattle.std.proofs.Common.{sym, ap, ◌∙◌, subst, add-one, arith, ltb-true, ltb-false, lt-ltb, le-ltb}
 use Rattle.mask.specs.Val.{val}
 use Rattle.mask.specs.declared.Mask.{Mask}
 use Rattle.rules.specs.Board as rules

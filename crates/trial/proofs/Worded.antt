@@ -1,8 +1,5 @@
 -- Mark, restore and keep leave words of 64 bits, on every input: they move whole masks.
-use mathlib.Core.Bool.{Bool, true, false, cond}
-use mathlib.Core.List.{List}
-use Prim.Native.Nat.{ℕ, zero, suc, ◌-◌}
-use lib.Dec.{ltb}
+use Rattle.std.specs.Prelude.{Bool, true, false, cond, List, ℕ, zero, suc, ◌-◌, ltb}
 use Rattle.mask.specs.Words.{Words}
 use Rattle.rules.specs.declared.Refusal.{Refusal}
 use Rattle.rules.specs.declared.Refusal.TheVariants.{Broken, TooDeep, NoMark}

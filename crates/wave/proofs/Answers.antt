@@ -1,10 +1,6 @@
 -- What a list of at most 64 ids is answered is terse. Assumes nothing.
-use mathlib.Core.Bool.{Bool, not}
-use mathlib.Core.List.{List, [], ◌∷◌, map}
-use Prim.Native.Nat.{ℕ, suc, ◌+◌, ◌≤◌}
-use native.Mathlib.Omega.{arith}
-use lib.Dec.{leb}
-use lib.ListN.{length}
+use Rattle.std.specs.Prelude.{Bool, not, List, [], ◌∷◌, map, ℕ, suc, ◌+◌, ◌≤◌, leb, length}
+use Rattle.std.proofs.Common.{arith}
 use Rattle.rules.specs.Sets.{Every}
 use Rattle.rules.specs.Pass.{pass}
 use Rattle.rules.specs.Board as rules

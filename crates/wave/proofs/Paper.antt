@@ -1,7 +1,6 @@
 -- 01's example, from the bytes of its sheet to the bytes that are printed. Assumes nothing.
-use mathlib.Core.Path.{◌≡◌, refl, ◌∙◌}
-use mathlib.Core.List.{List, [], ◌∷◌}
-use Prim.Native.Nat.{ℕ}
+use Rattle.std.specs.Prelude.{◌≡◌, refl, List, [], ◌∷◌, ℕ}
+use Rattle.std.proofs.Common.{◌∙◌}
 use Rattle.decimal.specs.Decimal as decimal
 use Rattle.mask.specs.Val.{val, mask_of}
 use Rattle.mask.specs.Sets.{members_from, members_in}

@@ -1,16 +1,9 @@
 -- Destinations stay brief, whatever the calls of a sheet: closings and passes only take chutes away. Assumes nothing.
-use mathlib.Core.Path.{◌≡◌, refl, sym, ap, subst}
-use mathlib.Core.Bool.{Bool, true, false, not, cond}
-use mathlib.Core.List.{List, [], ◌∷◌, ◌++◌, map, append_assoc}
-use Prim.Native.Nat.{ℕ, zero, suc, ◌+◌, ◌^◌, ◌≤◌, ◌<◌, suc-le-suc}
-use native.Mathlib.Omega.{arith}
-use lib.Dec.{T, eqb}
-use lib.IntN.{ℤ, pos, nat_abs, ◌+ℤ◌}
-use lib.ListN.{length}
-use lib.Signed.{lt_z, nat_abs-le}
-use mir.Syntax.{w32}
-use mir.Val.{SFits}
-use borrow.Author.Tests.{leb-true}
+use Rattle.std.specs.Prelude.{◌≡◌, refl, Bool, true, false, not, cond, List, [], ◌∷◌, ◌++◌, map, ℕ, zero, suc, ◌+◌, ◌^◌, ◌≤◌, ◌<◌, T, eqb, ℤ, pos, nat_abs, ◌+ℤ◌, length}
+use Rattle.std.specs.Int.Signed.{lt_z}
+use Rattle.std.specs.Int.{w32}
+use Rattle.std.proofs.Common.{sym, ap, subst, append_assoc, suc-le-suc, arith, SFits, leb-true}
+use lib.Signed.{nat_abs-le}
 use Rattle.mask.specs.Val.{offsets}
 use Rattle.offset.specs.Places.{span_of}
 use Rattle.offset.specs.Wide.{mag-add}

@@ -1,14 +1,8 @@
 -- What the wave prints is what the rules of 01 say of its sheet; its text is never longer than `most`; it is refused exactly where the text doesn't
 -- fit, so with that much room never. Assumes nothing.
-use mathlib.Core.Path.{◌≡◌, refl, sym, ap, ap₂, ◌∙◌, subst}
-use mathlib.Core.Bool.{Bool, true, false}
-use mathlib.Core.List.{List, [], ◌∷◌, ◌++◌, map}
-use mathlib.Core.Logic.{◌↔◌}
-use Prim.Native.Nat.{ℕ, suc, ◌≤◌, ◌<◌}
-use native.Mathlib.Omega.{arith}
-use borrow.Author.Tests.{leb-true, leb-false}
-use lib.Dec.{leb}
-use lib.ListN.{length, take, drop, length-map}
+use Rattle.std.specs.Prelude.{◌≡◌, refl, Bool, true, false, List, [], ◌∷◌, ◌++◌, map, ◌↔◌, ℕ, suc, ◌≤◌, ◌<◌, leb, length, take, drop}
+use Rattle.std.proofs.Common.{sym, ap, ap₂, ◌∙◌, subst, arith, leb-true, leb-false}
+use Rattle.std.proofs.lemmas.List.{length-map}
 use Rattle.rules.specs.Board as rules
 use Rattle.rules.specs.declared.Refusal.TheVariants.{NoRoom}
 use Rattle.rules.proofs.WellFormed.{well-blank, well-run}

@@ -1,16 +1,9 @@
 -- Registrations one by one: what the loop holds after some of them, and that one more finds its row.
-use mathlib.Core.Path.{◌≡◌, refl, sym, ap, ◌∙◌}
-use mathlib.Core.Bool.{Bool, true, false}
-use mathlib.Core.List.{List, [], map}
-use mathlib.Core.Logic.{◌⊎◌, ⊎_elim}
-use Prim.Native.Nat.{ℕ, ◌+◌, ◌%◌, ◌<◌, ◌≤◌}
-use native.Mathlib.Decide.{ℕ_discrete}
-use native.Mathlib.Nat.{not-suc-le-zero}
-use native.Mathlib.Omega.{arith}
-use borrow.Author.Tests.{ltb-true, ltb-false, lt-ltb, le-ltb}
-use lib.Dec.{ltb}
-use lib.ListN.{length, get_or, set, take, length-map}
-use lib.Seq.{get_or-set_same, get_or-set_other, length-take-le}
+use Rattle.std.specs.Prelude.{◌≡◌, refl, Bool, true, false, List, [], map, ◌⊎◌, ℕ, ◌+◌, ◌%◌, ◌<◌, ◌≤◌, ltb, length, get_or, set, take}
+use Rattle.std.proofs.Common.{sym, ap, ◌∙◌, ⊎_elim, not-suc-le-zero, arith, ltb-true, ltb-false, lt-ltb, le-ltb, length-take-le}
+use Rattle.std.proofs.Math.Decide.{ℕ_discrete}
+use Rattle.std.proofs.lemmas.List.{length-map}
+use lib.Seq.{get_or-set_same, get_or-set_other}
 use Rattle.domain.specs.Calls.{new_of}
 use Rattle.domain.specs.declared.BitDomain.{BitDomain}
 use Rattle.board.specs.Rows.{row0, id_at, nowhere, seat_in, seat}

@@ -1,10 +1,9 @@
 -- The sheet that was put into arrays is the one that they hold: each list is found where its own ids begin.
-use mathlib.Core.Path.{◌≡◌, refl, sym, ap, ◌∙◌}
-use mathlib.Core.List.{List, [], ◌∷◌, ◌++◌, map, append_assoc}
-use Prim.Native.Nat.{ℕ, suc, ◌+◌, ◌*◌, ◌≤◌}
-use native.Mathlib.Omega.{arith}
-use lib.ListN.{length, take, drop, replicate, length-append, length-replicate}
-use lib.Seq.{sets-eq, take-append_seam, drop_at}
+use Rattle.std.specs.Prelude.{◌≡◌, refl, List, [], ◌∷◌, ◌++◌, map, ℕ, suc, ◌+◌, ◌*◌, ◌≤◌, length, take, drop, replicate}
+use Rattle.std.proofs.Common.{sym, ap, ◌∙◌, append_assoc, arith, length-append, drop_at}
+use Rattle.std.proofs.lemmas.List.{length-replicate}
+use Rattle.std.proofs.lemmas.List.Edits.{sets-eq}
+use lib.Seq.{take-append_seam}
 use Rattle.sheet_form.specs.Sheet.{Sheet, All, Few}
 use Rattle.sheet_form.specs.Held.{no_destination, no_closing, no_span, filled, joined, spans, parsed_of}
 use Rattle.wave_form.specs.Wave.{part, sheet_of, ran_of}

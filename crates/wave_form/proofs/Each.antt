@@ -1,11 +1,6 @@
 -- What holds of calls one after another, whichever they are: one more stands last, and the rules tell the board after them.
-use mathlib.Core.Path.{◌≡◌, refl, ap, ◌∙◌}
-use mathlib.Core.Bool.{true}
-use mathlib.Core.List.{List, [], ◌∷◌, ◌++◌, map}
-use Prim.Native.Nat.{ℕ, suc, ◌+◌, ◌<◌}
-use native.Mathlib.Numerals.{add-one}
-use lib.ListN.{length, get_or, take}
-use lib.Seq.{take-suc}
+use Rattle.std.specs.Prelude.{◌≡◌, refl, true, List, [], ◌∷◌, ◌++◌, map, ℕ, suc, ◌+◌, ◌<◌, length, get_or, take}
+use Rattle.std.proofs.Common.{ap, ◌∙◌, add-one, take-suc}
 use Rattle.rules.specs.Board as rules
 use Rattle.board.specs.Well.{well_board}
 use Rattle.board.specs.View.{view}

@@ -1,13 +1,10 @@
 -- Lists one by one: what the loop holds after some of them, and that rows alone are propagated as their board is.
-use mathlib.Core.Path.{◌≡◌, refl, sym, ap, ◌∙◌, subst}
-use mathlib.Core.Bool.{Bool, true, false}
-use mathlib.Core.List.{List, [], ◌∷◌, ◌++◌, map, map-append}
-use Prim.Native.Nat.{ℕ, suc, ◌+◌, ◌-◌, ◌<◌, ◌≤◌, min}
-use native.Mathlib.Omega.{arith}
-use borrow.Author.Tests.{ltb-true, ltb-false}
-use lib.Dec.{ltb}
-use lib.ListN.{length, get_or, set, take, drop, replicate, length-map, length-drop, drop_of_length-le, get_or-map}
-use lib.Seq.{sets, take_all, take-length, drop-length, get_or-take, length-take-le}
+use Rattle.std.specs.Prelude.{◌≡◌, refl, Bool, true, false, List, [], ◌∷◌, ◌++◌, map, ℕ, suc, ◌+◌, ◌-◌, ◌<◌, ◌≤◌, min, ltb, length, get_or, set, take, drop, replicate}
+use Rattle.std.proofs.Common.{sym, ap, ◌∙◌, subst, arith, ltb-true, ltb-false, length-drop, drop_of_length-le, take_all, length-take-le}
+use Rattle.std.proofs.lemmas.List.{map-append, length-map}
+use Rattle.std.proofs.lemmas.List.Edits.{sets}
+use lib.ListN.{get_or-map}
+use lib.Seq.{take-length, drop-length, get_or-take}
 use Rattle.board.specs.declared.Board.{Board}
 use Rattle.board.specs.declared.Row.{Row}
 use Rattle.board_spread.specs.Spread.{pruned_of}

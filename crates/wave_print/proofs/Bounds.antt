@@ -1,12 +1,6 @@
 -- The bounds of a mask's values: those of its lowest and its highest offset. Assumes nothing.
-use mathlib.Core.Path.{◌≡◌, sym, ap, ap₂, ◌∙◌}
-use mathlib.Core.Bool.{Bool, true}
-use mathlib.Core.List.{[], ◌∷◌, ◌++◌}
-use Prim.Native.Nat.{ℕ}
-use native.Mathlib.Omega.{arith}
-use lib.Dec.{eqb}
-use lib.IntN.{ℤ, pos, ◌+ℤ◌}
-use borrow.Author.Tests.{eqb-true}
+use Rattle.std.specs.Prelude.{◌≡◌, Bool, true, [], ◌∷◌, ◌++◌, ℕ, eqb, ℤ, pos, ◌+ℤ◌}
+use Rattle.std.proofs.Common.{sym, ap, ap₂, ◌∙◌, arith, eqb-true}
 use Rattle.decimal.specs.Decimal.{decimal}
 use Rattle.mask.specs.Bit.{Lowest, Highest}
 use Rattle.mask.specs.Val.{val}

@@ -1,8 +1,5 @@
 -- The definitions, run. Assumes nothing.
-use mathlib.Core.Path.{◌≡◌, refl}
-use mathlib.Core.Bool.{true, false}
-use mathlib.Core.List.{[], ◌∷◌}
-use lib.IntN.{pos, negsuc}
+use Rattle.std.specs.Prelude.{◌≡◌, refl, true, false, [], ◌∷◌, pos, negsuc}
 use Rattle.decimal.specs.Decimal.{digits, natural, decimal}
 use Rattle.rules.specs.Board as rules
 use Rattle.sheet_form.specs.declared.Line.{Line}

@@ -1,9 +1,6 @@
 -- Text put piece by piece, and the room that is left for the rest. Assumes nothing.
-use Prim.Native.Nat.{ℕ, ◌+◌, ◌≤◌}
-use mathlib.Core.Path.{◌≡◌, refl, ap, ◌∙◌}
-use mathlib.Core.List.{List, [], ◌∷◌, ◌++◌}
-use native.Mathlib.Omega.{arith}
-use lib.ListN.{length, set, length-append}
+use Rattle.std.specs.Prelude.{ℕ, ◌+◌, ◌≤◌, ◌≡◌, refl, List, [], ◌∷◌, ◌++◌, length, set}
+use Rattle.std.proofs.Common.{ap, ◌∙◌, arith, length-append}
 use lib.Seq.{length-sets}
 use Rattle.decimal.specs.Put.{Put, put_of}
 use Rattle.decimal.proofs.Puts.{put-more}

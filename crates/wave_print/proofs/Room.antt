@@ -1,11 +1,6 @@
 -- How long a text can be: a caller who lends `most` bytes always has room. Assumes nothing.
-use mathlib.Core.Bool.{Bool, true, false, cond}
-use mathlib.Core.List.{List, [], ◌∷◌, ◌++◌}
-use Prim.Native.Nat.{ℕ, suc, ◌+◌, ◌*◌, ◌^◌, ◌≤◌, ◌<◌}
-use native.Mathlib.Omega.{arith}
-use lib.Dec.{T, eqb}
-use lib.IntN.{ℤ, nat_abs}
-use lib.ListN.{length, length-append}
+use Rattle.std.specs.Prelude.{Bool, true, false, cond, List, [], ◌∷◌, ◌++◌, ℕ, suc, ◌+◌, ◌*◌, ◌^◌, ◌≤◌, ◌<◌, T, eqb, ℤ, nat_abs, length}
+use Rattle.std.proofs.Common.{arith, length-append}
 use Rattle.decimal.specs.Decimal.{natural, decimal}
 use Rattle.decimal.proofs.Digits.{natural-few, decimal-few}
 use Rattle.rules.specs.Sets.{Chutes, has, Every, smallest, largest}

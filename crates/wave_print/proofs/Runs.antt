@@ -1,14 +1,8 @@
 -- The lines one at a time. Assumes nothing.
-use mathlib.Core.Path.{◌≡◌, sym, ap, ◌∙◌}
-use mathlib.Core.Bool.{Bool, false, cond}
-use mathlib.Core.List.{List, [], ◌∷◌, ◌++◌}
-use Prim.Native.Nat.{ℕ, suc, ◌+◌, ◌-◌, ◌≤◌, ◌<◌}
-use native.Mathlib.Nat.{sub-zero}
-use native.Mathlib.Numerals.{add-one}
-use native.Mathlib.Omega.{arith}
-use borrow.Author.Tests.{eq-eqb, ne_eqb}
-use lib.ListN.{length, get_or, take, drop}
-use lib.Seq.{drop-cons, drop-length, get_or-take, length-take-le}
+use Rattle.std.specs.Prelude.{◌≡◌, Bool, false, cond, List, [], ◌∷◌, ◌++◌, ℕ, suc, ◌+◌, ◌-◌, ◌≤◌, ◌<◌, length, get_or, take, drop}
+use Rattle.std.proofs.Common.{sym, ap, ◌∙◌, add-one, arith, eq-eqb, ne_eqb, drop-cons, length-take-le}
+use Rattle.std.proofs.Math.Nat.{sub-zero}
+use lib.Seq.{drop-length, get_or-take}
 use Rattle.decimal.specs.Put.{put_of}
 use Rattle.decimal.proofs.Puts.{put-more, put-end}
 use Rattle.board.specs.View.{rows_from, rows_of, held_at}

@@ -1,9 +1,7 @@
 -- The three steps of a wave, on rows alone, are the public calls on the board: registrations, closings, lists.
-use mathlib.Core.Path.{◌≡◌, refl, sym, ap, ◌∙◌, subst}
-use mathlib.Core.Bool.{true}
-use mathlib.Core.List.{List, [], ◌∷◌, map}
-use Prim.Native.Nat.{ℕ, min}
-use lib.ListN.{length, take, length-map, length-take}
+use Rattle.std.specs.Prelude.{◌≡◌, refl, true, List, [], ◌∷◌, map, ℕ, min, length, take}
+use Rattle.std.proofs.Common.{sym, ap, ◌∙◌, subst, length-take}
+use Rattle.std.proofs.lemmas.List.{length-map}
 use Rattle.closing.specs.declared.Closing.{Closing}
 use Rattle.board.specs.declared.Board.{Board}
 use Rattle.board_enter.specs.Enter.{blank}
