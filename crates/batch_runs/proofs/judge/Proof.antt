@@ -1,69 +1,66 @@
 -- `batch_runs::judge` meets its contract. The invariant: from the place reached on, the kinds are judged as all of them are. Assumes nothing.
-use mathlib.Core.Path.{◌≡◌, refl, sym, ◌∙◌}
-use Prim.Native.Nat.{◌-◌, ◌≤◌}
-use lib.ListN.{length, drop}
+use Rattle.std.specs.Prelude.{◌≡◌, refl, ◌-◌, ◌≤◌, length, drop}
+use Rattle.std.proofs.Common.{sym, ◌∙◌, rules}
 use Rattle.batch_runs.specs.Runs.{kinds_form, form_of}
 use Rattle.batch_runs.proofs.RunLaws.{form-ids, form-values, form-long, form-kinds, kind-zero, kind-over, kind-good, kinds-end}
-use borrow.Author.Rules.{rules}
 use Rattle.batch_runs.proofs.judge.Statement.{statement}
 use Rattle.batch_runs.proofs.judge.Tie as tie
 
-abbrev invariant-loop : tie.invariant-loop
+abbrev invariant-loop : tie.invariant-loop-i
 invariant-loop kinds ids values n i₀ i = (i ≤ n) × (kinds_form i (drop i kinds) ≡ kinds_form 0 kinds)
 
-abbrev decreases-loop : tie.decreases-loop
+abbrev decreases-loop : tie.decreases-loop-i
 decreases-loop kinds ids values n i₀ i = n - i
 
-returns : tie.Need-returns invariant-loop decreases-loop
-returns c = form-ids c.before.args.kinds.now (length c.before.args.ids.now) (length c.before.args.values.now) c.if1.true
+returns : tie.Need-returns-then-ids-n invariant-loop decreases-loop
+returns c = form-ids c.args.kinds.now (length c.args.ids.now) (length c.args.values.now) c.if-ids-n.true
 
-returns-2 : tie.Need-returns-2 invariant-loop decreases-loop
-returns-2 c = form-values c.before.before.args.kinds.now (length c.before.before.args.ids.now) (length c.before.before.args.values.now) c.if2.true
+returns-2 : tie.Need-returns-then-values-n invariant-loop decreases-loop
+returns-2 c = form-values c.args.kinds.now (length c.args.ids.now) (length c.args.values.now) c.if-values-n.true
 
-returns-3 : tie.Need-returns-3 invariant-loop decreases-loop
-returns-3 c = form-long c.before.before.before.args.kinds.now (length c.before.before.before.args.ids.now) (length c.before.before.before.args.values.now) c.before.before.if1.false c.before.if2.false c.if3.true
+returns-3 : tie.Need-returns-then-n-gt256 invariant-loop decreases-loop
+returns-3 c = form-long c.args.kinds.now (length c.args.ids.now) (length c.args.values.now) c.if-ids-n.false c.if-values-n.false c.if-n-gt256.true
 
 -- what is left once the lengths are found to be right
-kinds-left : (c : tie.Else3 invariant-loop decreases-loop) → let a = c.before.before.before.args in kinds_form 0 a.kinds.now ≡ form_of a.kinds.now (length a.ids.now) (length a.values.now)
-kinds-left c = let a = c.before.before.before.args in form-kinds a.kinds.now (length a.ids.now) (length a.values.now) c.before.before.if1.false c.before.if2.false c.if3.false
+kinds-left : (c : tie.Else-n-gt256 invariant-loop decreases-loop) → let a = c.args in kinds_form 0 a.kinds.now ≡ form_of a.kinds.now (length a.ids.now) (length a.values.now)
+kinds-left c = let a = c.args in form-kinds a.kinds.now (length a.ids.now) (length a.values.now) c.if-ids-n.false c.if-values-n.false c.if-n-gt256.false
 
-loop-holds : tie.Need-loop-init invariant-loop decreases-loop
+loop-holds : tie.Need-loop-i-init invariant-loop decreases-loop
 loop-holds c = (search rules, refl)
 
-mul-k : tie.Need-overflow-mul-k invariant-loop decreases-loop
+mul-k : tie.Need-offset_bounds-kinds-i invariant-loop decreases-loop
 mul-k c = search rules
 
-shared-slice-read-k : tie.Need-shared-slice-read-k invariant-loop decreases-loop
+shared-slice-read-k : tie.Need-bounds-kinds-i invariant-loop decreases-loop
 shared-slice-read-k c = search rules
 
-returns-4 : tie.Need-returns-4 invariant-loop decreases-loop
+returns-4 : tie.Need-returns-then-k-eq0 invariant-loop decreases-loop
 returns-4 c =
     let s = c.before.before.before in
-    sym (kind-zero s.before.before.before.before.args.kinds.now s.loop.i c.before.before.loop-test.true c.if4.true) ∙ s.loop.invariant.1 ∙ kinds-left s.before
+    sym (kind-zero s.args.kinds.now s.loop-i.i c.loop-i-test.true c.if-k-eq0.true) ∙ s.loop-i.invariant.1 ∙ kinds-left s.before
 
-returns-5 : tie.Need-returns-5 invariant-loop decreases-loop
+returns-5 : tie.Need-returns-then-k-gt4 invariant-loop decreases-loop
 returns-5 c =
     let s = c.before.before.before.before in
-    sym (kind-over s.before.before.before.before.args.kinds.now s.loop.i c.before.before.before.loop-test.true c.if5.true) ∙ s.loop.invariant.1 ∙ kinds-left s.before
+    sym (kind-over s.args.kinds.now s.loop-i.i c.loop-i-test.true c.if-k-gt4.true) ∙ s.loop-i.invariant.1 ∙ kinds-left s.before
 
-add-i : tie.Need-overflow-add-i invariant-loop decreases-loop
+add-i : tie.Need-overflow_add-i invariant-loop decreases-loop
 add-i c = search rules
 
-loop-less : tie.Need-loop-smaller invariant-loop decreases-loop
+loop-less : tie.Need-loop-i-smaller invariant-loop decreases-loop
 loop-less c = search rules
 
-loop-again : tie.Need-loop-preserved invariant-loop decreases-loop
+loop-again : tie.Need-loop-i-preserved invariant-loop decreases-loop
 loop-again c =
-    let s = c.before.before.before.before in
-    (search rules, kind-good s.before.before.before.before.args.kinds.now s.loop.i c.before.before.before.loop-test.true c.before.if4.false c.if5.false ∙ s.loop.invariant.1)
+    (search rules, kind-good c.args.kinds.now c.loop-i.i c.loop-i-test.true c.if-k-eq0.false c.if-k-gt4.false ∙ c.loop-i.invariant.1)
 
-returns-6 : tie.Need-returns-6 invariant-loop decreases-loop
+returns-6 : tie.Need-returns invariant-loop decreases-loop
 returns-6 c =
     let s = c.before in
-    kinds-end s.before.before.before.before.args.kinds.now s.loop.i c.loop-test.false ∙ s.loop.invariant.1 ∙ kinds-left s.before
+    kinds-end s.args.kinds.now s.loop-i.i c.loop-i-test.false ∙ s.loop-i.invariant.1 ∙ kinds-left s.before
 
-pub judge-spec : {M : Type 1} → statement M
-judge-spec =
+pub judge_spec : {M : Type 1} → statement M
+judge_spec =
     tie.close
     (tie.spec
     invariant-loop

@@ -1,11 +1,9 @@
 -- `sparse_make::new` meets its contract: reversed ends are exchanged. Assumes nothing.
-use mathlib.Core.Path.{◌≡◌, sym, ◌∙◌}
+use Rattle.std.specs.Prelude.{◌≡◌}
+use Rattle.std.proofs.Common.{sym, ◌∙◌, SFits, to_z, of_z, to_z-of_z, rules}
+use Rattle.std.specs.Int.{w32}
 use lib.Signed.{lt_z}
-use mir.Syntax.{w32}
-use mir.Val.{SFits, to_z, of_z}
-use mir.Facts.{to_z-of_z}
 use Rattle.sparse_make.specs.Calls.{between_of, new_of}
-use borrow.Author.Rules.{rules}
 use Rattle.sparse_make.proofs.new.Statement.{statement}
 use Rattle.sparse_make.proofs.new.Tie as tie
 
@@ -18,13 +16,13 @@ b-fits s = search rules
 test : (s : tie.Start) → lt_z s.args.b.0 s.args.a.0 ≡ lt_z (to_z w32 (of_z w32 s.args.b.0)) (to_z w32 (of_z w32 s.args.a.0))
 test s = λ i. lt_z (sym (to_z-of_z (b-fits s)) i) (sym (to_z-of_z (a-fits s)) i)
 
-returns : tie.Need-returns
+returns : tie.Need-returns-then-b-a
 unfolding new_of
-returns c = let s = c.before.before.before.before.before.before.before.before.before.before.before.before.before.before.before.before in rw (test s ∙ c.before.before.before.before.before.before.before.before.before.if1.true) (c.before.before.before.before.between.ensures ∙ (λ i. between_of (to_z-of_z (b-fits s) i) (to_z-of_z (a-fits s) i) s.args.ind.now s.args.val.now))
+returns c = let s = c.before.before.before.before.before.before.before.before.before.before.before.before.before.before.before.before in rw (test s ∙ c.if-b-a.true) (c.between.ensures ∙ (λ i. between_of (to_z-of_z (b-fits s) i) (to_z-of_z (a-fits s) i) s.args.ind.now s.args.val.now))
 
-returns-2 : tie.Need-returns-2
+returns-2 : tie.Need-returns
 unfolding new_of
-returns-2 c = let s = c.before.before.before.before.before.before.before.before.before.before.before.before.before.before.before.before in rw (test s ∙ c.before.before.before.before.before.before.before.before.before.if1.false) (c.before.before.before.before.between2.ensures ∙ (λ i. between_of (to_z-of_z (a-fits s) i) (to_z-of_z (b-fits s) i) s.args.ind.now s.args.val.now))
+returns-2 c = let s = c.before.before.before.before.before.before.before.before.before.before.before.before.before.before.before.before in rw (test s ∙ c.if-b-a.false) (c.between-2.ensures ∙ (λ i. between_of (to_z-of_z (a-fits s) i) (to_z-of_z (b-fits s) i) s.args.ind.now s.args.val.now))
 
 pub new_spec : {M : Type 1} → statement M
 new_spec =

@@ -1,16 +1,14 @@
 -- `domain_values::make::gathered` meets its contract: the offsets of the values are those of the universe's values that are among them.
 -- Assumes nothing.
-use mathlib.Core.Path.{◌≡◌, ap, ◌∙◌}
-use lib.IntN.{ℤ}
-use mir.Syntax.{w32}
-use mir.Val.{to_z, of_z}
+use Rattle.std.specs.Prelude.{◌≡◌, ℤ}
+use Rattle.std.proofs.Common.{ap, ◌∙◌, to_z, of_z, rules}
+use Rattle.std.specs.Int.{w32}
 use Rattle.mask.specs.Val.{Fit, mask-eq}
 use Rattle.offset.specs.Places.{span_of}
 use Rattle.rules.specs.Sets.{has, keep}
 use Rattle.domain.specs.Set.{bits_of, range}
 use Rattle.domain.proofs.Signed.{read}
 use Rattle.domain_values.proofs.Spread.{bits-among}
-use borrow.Author.Rules.{rules}
 use Rattle.domain_values.proofs.make.gathered.Statement.{statement}
 use Rattle.domain_values.proofs.make.gathered.Tie as tie
 
@@ -26,9 +24,13 @@ returns c =
     let l = s.args.values.now in
     let lo = s.args.min in
     let hi = s.args.max in
-    let g : Fit c.offsets-of.result = search rules in
-    let e = c.offsets-of.ensures ∙ ap (λ (z : ℤ). bits_of z l) (min-is s) ∙ bits-among lo hi l s.requires.1 in
-    λ i. record { mask = mask-eq c.offsets-of.result (bits_of lo (keep (λ x. has x l) (range lo (span_of lo hi)))) g e i; min = min-is s i; max = max-is s i }
+    let g : Fit c.offsets_of.result = search rules in
+    let e = c.offsets_of.ensures ∙ ap (λ (z : ℤ). bits_of z l) (min-is s) ∙ bits-among lo hi l s.requires.1 in
+    λ i. record { mask = mask-eq c.offsets_of.result (bits_of lo (keep (λ x. has x l) (range lo (span_of lo hi)))) g e i; min = min-is s i; max = max-is s i }
 
-pub gathered-spec : {M : Type 1} → statement M
-gathered-spec = tie.close (tie.spec (λ c κs. search rules) returns)
+pub gathered_spec : {M : Type 1} → statement M
+gathered_spec =
+    tie.close
+    (tie.spec
+    (λ c κs. search rules)
+    returns)

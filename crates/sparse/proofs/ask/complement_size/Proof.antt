@@ -1,34 +1,41 @@
 -- `sparse::ask::complement_size` meets its contract: it is asked of an accepted set, and refused as the check says otherwise. Assumes nothing.
-use mathlib.Core.Path.{◌≡◌, sym, ◌∙◌}
+use Rattle.std.specs.Prelude.{◌≡◌}
+use Rattle.std.proofs.Common.{sym, ◌∙◌, arith, rules}
 use Rattle.sparse_inner.specs.declared.Verdict.TheVariants.{Fine}
 use Rattle.sparse_inner.specs.Set.{Full, full, verdict_of, WellF}
 use Rattle.sparse_inner.proofs.Checks.{well-of}
-use native.Mathlib.Omega.{arith}
 use Rattle.sparse.specs.Calls.{complement_size_of}
-use borrow.Author.Rules.{rules}
 use Rattle.sparse.proofs.ask.complement_size.Statement.{statement}
 use Rattle.sparse.proofs.ask.complement_size.Tie as tie
 
 abbrev fu : tie.Start → Full
 fu s = full s.args.s s.args.ind.now s.args.val.now
 
-fine : (c : tie.After-enum-told) → verdict_of (fu c.before.before.before.before.before) ≡ Fine
-fine c = sym c.before.before.check.ensures ∙ c.enum_told.given.1
+fine : (c : tie.In-Fine) → verdict_of (fu c.before.before.before.before) ≡ Fine
+fine c = sym c.check.ensures ∙ c.in-Fine.is
 
-well : (c : tie.After-enum-told) → WellF (fu c.before.before.before.before.before)
-well c = well-of (fu c.before.before.before.before.before) (fine c)
+well : (c : tie.In-Fine) → WellF (fu c.before.before.before.before)
+well c = well-of (fu c.before.before.before.before) (fine c)
 
-sub-t7 : tie.Need-overflow-sub-t7
+sub-t7 : tie.Need-overflow_sub-result
 sub-t7 c = omega (arith, (well c.before).within)
 
-returns : tie.Need-returns
+returns : tie.Need-returns-in-Refused
 unfolding complement_size_of
-returns c = rw (sym c.before.before.before.check.ensures ∙ c.before.why.given.1)
+returns c = rw (sym c.check.ensures ∙ c.in-Refused.is)
 
-returns-2 : tie.Need-returns-2
+returns-2 : tie.Need-returns-in-Fine
 unfolding complement_size_of
-returns-2 c = rw (sym c.before.before.before.check.ensures ∙ c.before.enum_told.given.1)
+returns-2 c = rw (sym c.check.ensures ∙ c.in-Fine.is)
 
-pub complement-size-spec : {M : Type 1} → statement M
-complement-size-spec =
-    tie.close (tie.spec (λ c κs. search rules) (λ c. search rules) (λ c. search rules) sub-t7 (λ c. search rules) returns returns-2)
+pub complement_size_spec : {M : Type 1} → statement M
+complement_size_spec =
+    tie.close
+    (tie.spec
+    (λ c κs. search rules)
+    (λ c. search rules)
+    (λ c. search rules)
+    sub-t7
+    (λ c. search rules)
+    returns
+    returns-2)
