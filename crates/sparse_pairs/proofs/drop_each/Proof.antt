@@ -1,13 +1,8 @@
 -- `sparse_pairs::drop_each` meets its contract: what is left to drop completes the same set. Assumes nothing.
-use mathlib.Core.Path.{◌≡◌, refl, sym, ap, ◌∙◌, subst}
-use native.Mathlib.Omega.{arith}
-use Prim.Native.Nat.{ℕ, ◌+◌, ◌-◌}
-use lib.IntN.{pos}
-use lib.ListN.{length, get_or, take, drop}
-use mir.Syntax.{w32}
-use mir.Val.{SFits}
-use mir.Facts.{to_z-of_z}
-use borrow.Author.Rules.{rules}
+use Rattle.std.specs.Prelude.{◌≡◌, refl, ℕ, ◌+◌, ◌-◌, pos, length, take, drop}
+use Rattle.std.proofs.Common.{sym, ap, ◌∙◌, subst, arith, SFits, to_z-of_z, rules}
+use Rattle.std.specs.Int.{w32}
+use lib.ListN.{get_or}
 use Rattle.rules.specs.Sets.{Chutes}
 use Rattle.sparse_inner.specs.Set.{Full, full, WellF, place_in}
 use Rattle.sparse_inner.specs.Change.{drop_at}
@@ -23,54 +18,52 @@ record Inv (f f₀ : Full) (vs : Chutes) (k : ℕ) : Type 0 where
   len-ind : length f.ind ≡ length f₀.ind
   len-val : length f.val ≡ length f₀.val
 
-abbrev invariant-loop : tie.invariant-loop
+abbrev invariant-loop : tie.invariant-loop-i
 invariant-loop ind₀ val₀ values m cur₀ i₀ ind val cur i = Inv (full cur ind val) (full cur₀ ind₀ val₀) (take m values) i
 
-abbrev decreases-loop : tie.decreases-loop
+abbrev decreases-loop : tie.decreases-loop-i
 decreases-loop ind₀ val₀ values m cur₀ i₀ ind val cur i = m - i
 
-el : (c : tie.After-place invariant-loop decreases-loop) → SFits w32 (get_or c.before.before.before.before.before.before.before.before.args.values.now c.before.before.before.before.before.loop.i (pos 0))
+el : (c : tie.After-place invariant-loop decreases-loop) → SFits w32 (get_or c.args.values.now c.loop-i.i (pos 0))
 el c = search rules
 
-loop-holds : tie.Need-loop-init invariant-loop decreases-loop
-loop-holds c = record { rest = refl; well = c.before.before.requires.0; len-ind = refl; len-val = refl }
+loop-holds : tie.Need-loop-i-init invariant-loop decreases-loop
+loop-holds c = record { rest = refl; well = c.requires.0; len-ind = refl; len-val = refl }
 
-shared-slice-copy-out-t16 : tie.Need-shared-slice-copy-out-t16 invariant-loop decreases-loop
-shared-slice-copy-out-t16 c = omega (arith, c.before.before.before.before.before.before.requires.1, c.before.before.loop-test.true)
+shared-slice-copy-out-t16 : tie.Need-bounds-values-i invariant-loop decreases-loop
+shared-slice-copy-out-t16 c = omega (arith, c.requires.1, c.loop-i-test.true)
 
-drop-at-requires : tie.Need-drop-at-requires invariant-loop decreases-loop
-drop-at-requires c κs = c.before.before.before.before.before.loop.invariant.well
+drop-at-requires : tie.Need-drop_at-cur-requires invariant-loop decreases-loop
+drop-at-requires c κs = c.loop-i.invariant.well
 
-loop-again : tie.Need-loop-preserved invariant-loop decreases-loop
+loop-again : tie.Need-loop-i-preserved invariant-loop decreases-loop
 loop-again c =
-    let s = c.before.before.before.before.before.before.before.before.before.before.before.before.before in
-    let l = c.before.before.before.before.before.before.before.before.before.before.loop in
+    let l = c.loop-i in
     let f = full l.cur l.ind l.val in
-    let vs = s.args.values.now in
+    let vs = c.args.values.now in
     let v = get_or vs l.i (pos 0) in
-    let e = c.before.before.before.before.drop_at.ensures ∙ ap (drop_at f) (c.before.before.before.before.before.place.ensures ∙ ap (place_in l.cur) (to_z-of_z (el c.before.before.before.before.before))) in
+    let e = c.drop_at-cur.ensures ∙ ap (drop_at f) (c.place.ensures ∙ ap (place_in l.cur) (to_z-of_z (el c.before.before.before.before.before))) in
     record {
-      rest = ap (λ (g : Full). drop_each g (drop (l.i + 1) (take s.args.m vs))) e ∙ sym (drop-step f v (drop (l.i + 1) (take s.args.m vs))) ∙ sym (ap (drop_each f) (from-value s.args.m vs l.i s.requires.1 c.before.before.before.before.before.before.before.before.before.loop-test.true)) ∙ l.invariant.rest;
+      rest = ap (λ (g : Full). drop_each g (drop (l.i + 1) (take c.args.m vs))) e ∙ sym (drop-step f v (drop (l.i + 1) (take c.args.m vs))) ∙ sym (ap (drop_each f) (from-value c.args.m vs l.i c.requires.1 c.loop-i-test.true)) ∙ l.invariant.rest;
       well = subst WellF (sym e) (drop-at-well f (place_in l.cur v) l.invariant.well);
-      len-ind = c.before.before.before.before.drop_at.auto.1.0 ∙ l.invariant.len-ind;
-      len-val = c.before.before.before.before.drop_at.auto.1.1.0 ∙ l.invariant.len-val;
+      len-ind = c.drop_at-cur.auto.ind ∙ l.invariant.len-ind;
+      len-val = c.drop_at-cur.auto.val ∙ l.invariant.len-val;
     }
 
-same_length : tie.Need-same-length invariant-loop decreases-loop
-same_length c = c.before.loop.invariant.len-ind
+same_length : tie.Need-shape_of-ind invariant-loop decreases-loop
+same_length c = c.loop-i.invariant.len-ind
 
-same-length-2 : tie.Need-same-length-2 invariant-loop decreases-loop
-same-length-2 c = c.before.loop.invariant.len-val
+same-length-2 : tie.Need-shape_of-val invariant-loop decreases-loop
+same-length-2 c = c.loop-i.invariant.len-val
 
 returns : tie.Need-returns invariant-loop decreases-loop
 returns c =
-    let s = c.before.before.before.before in
-    let l = c.before.loop in
+    let l = c.loop-i in
     let f = full l.cur l.ind l.val in
-    sym (drop-end f) ∙ sym (ap (drop_each f) (past-values s.args.m s.args.values.now l.i s.requires.1 c.loop-test.false)) ∙ l.invariant.rest
+    sym (drop-end f) ∙ sym (ap (drop_each f) (past-values c.args.m c.args.values.now l.i c.requires.1 c.loop-i-test.false)) ∙ l.invariant.rest
 
-pub drop-each-spec : {M : Type 1} → statement M
-drop-each-spec =
+pub drop_each_spec : {M : Type 1} → statement M
+drop_each_spec =
     tie.close
     (tie.spec
     invariant-loop

@@ -1,52 +1,48 @@
 -- `sparse_values::next` meets its contract: a cell before the size holds the next value. Assumes nothing.
-use mathlib.Core.Path.{◌≡◌, sym, ◌∙◌}
-use Prim.Native.Nat.{◌+◌, ◌-◌}
-use native.Mathlib.Omega.{arith}
-use mir.Syntax.{w32}
-use mir.Val.{SFits}
-use borrow.Author.Tests.{lt-ltb, le-ltb}
+use Rattle.std.specs.Prelude.{◌≡◌, ◌+◌, ◌-◌}
+use Rattle.std.proofs.Common.{sym, ◌∙◌, arith, SFits, lt-ltb, le-ltb, rules}
+use Rattle.std.specs.Int.{w32}
 use Rattle.sparse_inner.specs.declared.Verdict.TheVariants.{Fine}
 use Rattle.sparse_inner.specs.Set.{Full, full, verdict_of, WellF}
 use Rattle.sparse_inner.proofs.Checks.{well-of}
 use Rattle.sparse_inner.proofs.Values.{cell-fits}
 use Rattle.sparse_values.specs.declared.Yielded.TheVariants.{Next}
 use Rattle.sparse_values.specs.Calls.{stepped, next_of}
-use borrow.Author.Rules.{rules}
 use Rattle.sparse_values.proofs.next.Statement.{statement}
 use Rattle.sparse_values.proofs.next.Tie as tie
 
 abbrev fu : tie.Start → Full
 fu s = full s.args.s s.args.ind.now s.args.val.now
 
-fine : (c : tie.After-enum-told) → verdict_of (fu c.before.before.before.before.before) ≡ Fine
-fine c = sym c.before.before.check.ensures ∙ c.enum_told.given.1
+fine : (c : tie.In-Fine) → verdict_of (fu c.before.before.before.before) ≡ Fine
+fine c = sym c.check.ensures ∙ c.in-Fine.is
 
-well : (c : tie.After-enum-told) → WellF (fu c.before.before.before.before.before)
-well c = well-of (fu c.before.before.before.before.before) (fine c)
+well : (c : tie.In-Fine) → WellF (fu c.before.before.before.before)
+well c = well-of (fu c.before.before.before.before) (fine c)
 
 off-fits : (s : tie.Start) → SFits w32 s.args.s.off
 off-fits s = search rules
 
-returns : tie.Need-returns
+returns : tie.Need-returns-then-at-s
 unfolding next_of
-returns c = rw (fine c.before.before, le-ltb _ _ c.if1.true)
+returns c = rw (fine c.before.before, le-ltb _ _ c.if-at-s.true)
 
-shared-slice-read-value : tie.Need-shared-slice-read-value
-shared-slice-read-value c = omega (arith, c.before.if1.false, (well c.before.before.before).within, (well c.before.before.before).room-val)
+shared-slice-read-value : tie.Need-bounds-val-at
+shared-slice-read-value c = omega (arith, c.if-at-s.false, (well c.before.before.before).within, (well c.before.before.before).room-val)
 
-value-requires : tie.Need-value-requires
-value-requires c κs = cell-fits (fu c.before.before.before.before.before.before.before.before) (well c.before.before.before) (off-fits c.before.before.before.before.before.before.before.before) c.before.before.before.before.before.before.before.before.args.c.at c.before.if1.false
+value-requires : tie.Need-value-v-requires
+value-requires c κs = cell-fits (fu c.before.before.before.before.before.before.before) (well c.before.before.before) (off-fits c.before.before.before.before.before.before.before) c.args.c.at c.if-at-s.false
 
-returns-2 : tie.Need-returns-2
+returns-2 : tie.Need-returns-in-Refused
 unfolding next_of
-returns-2 c = rw (sym c.before.before.before.check.ensures ∙ c.before.why.given.1)
+returns-2 c = rw (sym c.check.ensures ∙ c.in-Refused.is)
 
-returns-3 : tie.Need-returns-3
+returns-3 : tie.Need-returns-else-at-s
 unfolding next_of
-returns-3 c = rw (fine c.before.before.before.before, lt-ltb _ _ c.before.before.if1.false) (λ i. stepped (record { at = c.before.before.before.before.before.before.before.before.before.args.c.at + 1 }) (Next (record { 0 = c.value.ensures i })))
+returns-3 c = rw (fine c.before.before.before.before, lt-ltb _ _ c.if-at-s.false) (λ i. stepped (record { at = c.args.c.at + 1 }) (Next (record { 0 = c.value-v.ensures i })))
 
-pub next-spec : {M : Type 1} → statement M
-next-spec =
+pub next_spec : {M : Type 1} → statement M
+next_spec =
     tie.close
     (tie.spec
     (λ c κs. search rules)

@@ -1,10 +1,8 @@
 -- `batch::inner::close_rows` meets its contract: the rows and the count so far are those of the closings so far, and a closing moves no id, so that the ids gathered at first serve all of them.
 -- Assumes nothing.
-use mathlib.Core.Path.{◌≡◌, refl, sym, ap, ◌∙◌, subst}
-use mathlib.Core.Logic.{⊎_elim}
-use Prim.Native.Nat.{ℕ, ◌+◌, ◌-◌, ◌≤◌, ◌<◌}
-use native.Mathlib.Omega.{arith}
-use lib.ListN.{length, get_or, take}
+use Rattle.std.specs.Prelude.{◌≡◌, refl, ℕ, ◌+◌, ◌-◌, ◌≤◌, ◌<◌, length, take}
+use Rattle.std.proofs.Common.{sym, ap, ◌∙◌, subst, ⊎_elim, arith, rules}
+use lib.ListN.{get_or}
 use Rattle.closing.specs.declared.Closing.{Closing}
 use Rattle.board.specs.Rows.{id_at, seat_in}
 use Rattle.board.proofs.Seats.{seated, seat-agree, differ-agree}
@@ -12,19 +10,18 @@ use Rattle.board.proofs.ViewLaws.{mapped}
 use Rattle.batch.specs.Tallies.{untold, tallied, tally_of}
 use Rattle.batch.specs.declared.Tally.{Tally}
 use Rattle.batch.proofs.TallyLaws.{all-closings, none, tally, more-most, tallied-known, tallied-unknown, Kept, kept-none, kept-all, tally-next}
-use borrow.Author.Rules.{rules}
 use Rattle.batch.proofs.inner.close_rows.Statement.{statement}
 use Rattle.batch.proofs.inner.close_rows.Tie as tie
 
-abbrev invariant-loop : tie.invariant-loop
+abbrev invariant-loop : tie.invariant-loop-i
 invariant-loop count n cs ids hints rows₀ yes₀ i₀ rows n' i = (i ≤ n) × (n' ≤ i) × (tally rows n' ≡ tally_of count (untold rows₀) (take i cs))
 
-abbrev decreases-loop : tie.decreases-loop
+abbrev decreases-loop : tie.decreases-loop-i
 decreases-loop count n cs ids hints rows₀ yes₀ i₀ rows n' i = n - i
 
 -- where the id of a closing was sought
-module _ (c : tie.After-find invariant-loop decreases-loop) where
-  abbrev loop : tie.At-loop invariant-loop decreases-loop
+module _ (c : tie.After-find-at invariant-loop decreases-loop) where
+  abbrev loop : tie.At-loop-i invariant-loop decreases-loop
   loop = c.before.before.before.before.before
 
   abbrev start : tie.Start invariant-loop decreases-loop
@@ -65,37 +62,36 @@ module _ (c : tie.After-find invariant-loop decreases-loop) where
       ap (λ (t : Tally). tallied start.args.count t here) loop.loop.inv.2
       ∙ tally-next start.args.count (untold start.args.rows) start.args.t3 loop.loop.i (omega (arith, within, long))
 
-ids-of-requires : tie.Need-ids-of-requires invariant-loop decreases-loop
+ids-of-requires : tie.Need-ids_of-ids-requires invariant-loop decreases-loop
 ids-of-requires c κs = c.requires.0.few
 
-hints-of-requires : tie.Need-hints-of-requires invariant-loop decreases-loop
-hints-of-requires c κs = c.before.before.requires.0.few
+hints-of-requires : tie.Need-hints_of-hints-requires invariant-loop decreases-loop
+hints-of-requires c κs = c.requires.0.few
 
-loop-holds : tie.Need-loop-init invariant-loop decreases-loop
+loop-holds : tie.Need-loop-i-init invariant-loop decreases-loop
 loop-holds c = (search rules, search rules, refl)
 
-array-copy-out-c : tie.Need-array-copy-out-c invariant-loop decreases-loop
+array-copy-out-c : tie.Need-bounds-cs-i invariant-loop decreases-loop
 array-copy-out-c c = search (rules, mapped)
 
-find-requires : tie.Need-find-requires invariant-loop decreases-loop
+find-requires : tie.Need-find-at-requires invariant-loop decreases-loop
 find-requires c κs =
-    let s = c.before.before.before.before.before.before.before in
-    (s.before.requires.0.few, differ-agree (λ k. get_or s.ids-of.result k 0) (id_at s.before.args.rows) s.before.args.count s.ids-of.ensures ∙ s.before.requires.0.apart)
+    (c.requires.0.few, differ-agree (λ k. get_or c.ids_of-ids.result k 0) (id_at c.args.rows) c.args.count c.ids_of-ids.ensures ∙ c.requires.0.apart)
 
-array-copy-out-row : tie.Need-array-copy-out-row invariant-loop decreases-loop
+array-copy-out-row : tie.Need-bounds-rows-at invariant-loop decreases-loop
 array-copy-out-row c = search (rules, mapped)
 
-shut-row-requires : tie.Need-shut-row-requires invariant-loop decreases-loop
+shut-row-requires : tie.Need-shut_row-s-requires invariant-loop decreases-loop
 shut-row-requires c κs =
     let f = c.before.before in
-    (kept f).domains f.find.result (seat-below f c.before.if1.true)
+    (kept f).domains f.find-at.result (seat-below f c.if-at-lt-NOWHERE.true)
 
-array-set-from-rows : tie.Need-array-set-from-rows invariant-loop decreases-loop
+array-set-from-rows : tie.Need-bounds-rows-at-then-at-lt-NOWHERE invariant-loop decreases-loop
 array-set-from-rows c = search (rules, mapped)
 
 -- where the two ways meet again
-module _ (c : tie.Joined1 invariant-loop decreases-loop) where
-  abbrev f : tie.After-find invariant-loop decreases-loop
+module _ (c : tie.Joined-at-lt-NOWHERE invariant-loop decreases-loop) where
+  abbrev f : tie.After-find-at invariant-loop decreases-loop
   f = c.before
 
   few : c.if1.yes ≤ (loop f).loop.i + 1
@@ -113,18 +109,17 @@ module _ (c : tie.Joined1 invariant-loop decreases-loop) where
       (λ w. (λ i. tally (w.1 i) (w.2 i)) ∙ tallied-unknown n (now f) (here f) (let h = w.0.left in rw (seat-is f) at h))
       c.if1.branch
 
-loop-again : tie.Need-loop-preserved invariant-loop decreases-loop
+loop-again : tie.Need-loop-i-preserved invariant-loop decreases-loop
 loop-again c = (omega (arith, within c.before), few c, same c ∙ next-is c.before)
 
 returns : tie.Need-returns invariant-loop decreases-loop
 returns c =
-    let s = c.before in
-    let a = s.before.before.before.before.args in
-    let e : s.loop.i ≡ a.n = omega (arith, s.loop.invariant.0, c.loop-test.false) in
-    s.loop.invariant.2 ∙ ap (λ (k : ℕ). tally_of a.count (untold a.rows) (take k a.t3)) e
+    let a = c.args in
+    let e : c.loop-i.i ≡ a.n = omega (arith, c.loop-i.invariant.0, c.loop-i-test.false) in
+    c.loop-i.invariant.2 ∙ ap (λ (k : ℕ). tally_of a.count (untold a.rows) (take k a.cs)) e
 
-pub close-rows-spec : {M : Type 1} → statement M
-close-rows-spec =
+pub close_rows_spec : {M : Type 1} → statement M
+close_rows_spec =
     tie.close
     (tie.spec
     invariant-loop

@@ -1,10 +1,6 @@
 -- `board_ask::list::all_assigned` meets its contract: every listed row so far is assigned, and the first that isn't decides. Assumes nothing.
-use mathlib.Core.Path.{◌≡◌, refl, sym, ap, ◌∙◌}
-use mathlib.Core.Bool.{true}
-use Prim.Native.Nat.{ℕ, ◌-◌, ◌≤◌, ◌<◌}
-use native.Mathlib.Numerals.{add-one}
-use native.Mathlib.Omega.{arith}
-use lib.Dec.{eqb}
+use Rattle.std.specs.Prelude.{◌≡◌, refl, true, ℕ, ◌-◌, ◌≤◌, ◌<◌, eqb, not}
+use Rattle.std.proofs.Common.{sym, ap, ◌∙◌, add-one, arith, rules}
 use lib.ListN.{get_or}
 use Rattle.rules.proofs.Tests.{fails, passes}
 use Rattle.domain.proofs.Ends.{size-ones}
@@ -12,57 +8,52 @@ use Rattle.saved.specs.Upto.{upto}
 use Rattle.saved.proofs.UptoLaws.{one-fails}
 use Rattle.board.specs.Rows.{domain_at}
 use Rattle.board_ask.specs.Ready.{assigned}
-use borrow.Author.Rules.{rules}
 use Rattle.board_ask.proofs.list.all_assigned.Statement.{statement}
 use Rattle.board_ask.proofs.list.all_assigned.Tie as tie
 
-abbrev invariant-loop : tie.invariant-loop
+abbrev invariant-loop : tie.invariant-loop-p
 invariant-loop at n rows p₀ p = (p ≤ n) × (upto (λ k. assigned (domain_at rows (get_or at k 0))) p ≡ true)
 
-abbrev decreases-loop : tie.decreases-loop
+abbrev decreases-loop : tie.decreases-loop-p
 decreases-loop at n rows p₀ p = n - p
 
-loop-holds : tie.Need-loop-init invariant-loop decreases-loop
+loop-holds : tie.Need-loop-p-init invariant-loop decreases-loop
 loop-holds c = (search rules, refl)
 
-below : (c : tie.After-place invariant-loop decreases-loop) → get_or c.before.before.before.args.at.now c.before.before.loop.p 0 < 64
-below c = c.before.before.before.requires.1 c.before.before.loop.p c.before.loop-test.true
+below : (c : tie.After-place-1 invariant-loop decreases-loop) → get_or c.args.at.now c.loop-p.p 0 < 64
+below c = c.requires.1 c.loop-p.p c.loop-p-test.true
 
-mul-row : tie.Need-overflow-mul-row invariant-loop decreases-loop
+mul-row : tie.Need-offset_bounds-rows-place invariant-loop decreases-loop
 mul-row c = omega (arith, below c)
 
-array-copy-out-row : tie.Need-array-copy-out-row invariant-loop decreases-loop
+array-copy-out-row : tie.Need-bounds-rows-place invariant-loop decreases-loop
 array-copy-out-row c = below c
 
 -- what `is_one` tells of the row
-one-is : (c : tie.After-is-one invariant-loop decreases-loop) → c.is_one.result ≡ assigned (domain_at c.before.before.before.before.before.before.args.t1 (get_or c.before.before.before.before.before.before.args.at.now c.before.before.before.before.before.loop.p 0))
+one-is : (c : tie.After-is_one invariant-loop decreases-loop) → c.is_one.result ≡ assigned (domain_at c.args.rows (get_or c.args.at.now c.loop-p.p 0))
 one-is c =
-    let s = c.before.before.before.before.before in
-    let a = s.before.args in
-    let d = domain_at a.t1 (get_or a.at.now s.loop.p 0) in
+    let a = c.args in
+    let d = domain_at a.rows (get_or a.at.now c.loop-p.p 0) in
     c.is_one.ensures ∙ ap (λ (n : ℕ). eqb n 1) (sym (size-ones d.min d.mask))
 
-returns : tie.Need-returns invariant-loop decreases-loop
+returns : tie.Need-returns-then-not-is_one invariant-loop decreases-loop
 returns c =
-    let s = c.before.before.before.before.before.before in
-    let a = s.before.args in
-    sym (one-fails (λ k. assigned (domain_at a.t1 (get_or a.at.now k 0))) a.n s.loop.p (search rules) (fails (one-is c.before) c.if1.true))
+    let a = c.args in
+    sym (one-fails (λ k. assigned (domain_at a.rows (get_or a.at.now k 0))) a.n c.loop-p.p (search rules) (fails (one-is c.before) (ap not c.if-not-is_one.true)))
 
-loop-again : tie.Need-loop-preserved invariant-loop decreases-loop
+loop-again : tie.Need-loop-p-preserved invariant-loop decreases-loop
 loop-again c =
-    let s = c.before.before.before.before.before.before in
-    let a = s.before.args in
-    (search rules, ap (upto (λ k. assigned (domain_at a.t1 (get_or a.at.now k 0)))) (add-one s.loop.p) ∙ rw (passes (one-is c.before) c.if1.false) s.loop.invariant.1)
+    let a = c.args in
+    (search rules, ap (upto (λ k. assigned (domain_at a.rows (get_or a.at.now k 0)))) (add-one c.loop-p.p) ∙ rw (passes (one-is c.before) (ap not c.if-not-is_one.false)) c.loop-p.invariant.1)
 
-returns-2 : tie.Need-returns-2 invariant-loop decreases-loop
+returns-2 : tie.Need-returns invariant-loop decreases-loop
 returns-2 c =
-    let s = c.before in
-    let a = s.before.args in
-    let e : s.loop.p ≡ a.n = omega arith in
-    sym (ap (upto (λ k. assigned (domain_at a.t1 (get_or a.at.now k 0)))) (sym e) ∙ s.loop.invariant.1)
+    let a = c.args in
+    let e : c.loop-p.p ≡ a.n = omega arith in
+    sym (ap (upto (λ k. assigned (domain_at a.rows (get_or a.at.now k 0)))) (sym e) ∙ c.loop-p.invariant.1)
 
-pub all-assigned-spec : {M : Type 1} → statement M
-all-assigned-spec =
+pub all_assigned_spec : {M : Type 1} → statement M
+all_assigned_spec =
     tie.close
     (tie.spec
     invariant-loop

@@ -1,55 +1,52 @@
 -- `board_ask::list::ready` meets its contract: the places of the list tell its verdict, and its rows whether it is ready. Assumes nothing.
-use mathlib.Core.Path.{◌≡◌, refl}
-use mathlib.Core.Bool.{true}
+use Rattle.std.specs.Prelude.{◌≡◌, refl, true}
+use Rattle.std.proofs.Common.{rules}
 use Rattle.board.specs.Well.{well_board}
 use Rattle.board.proofs.LookLaws.{looked-broken, looked-well}
 use Rattle.board.proofs.ViewLaws.{sound}
 use Rattle.board_ask.specs.Ready.{ready_of}
 use Rattle.board_ask.proofs.ReadyLaws.{ready_refused, ready-few, ready-below, ready-told}
-use borrow.Author.Rules.{rules}
 use Rattle.board_ask.proofs.list.ready.Statement.{statement}
 use Rattle.board_ask.proofs.list.ready.Tie as tie
 
-returns : tie.Need-returns
+returns : tie.Need-returns-then-look-eq-BROKEN
 unfolding ready_of
 returns c =
-    let l = c.before in
-    rw (looked-broken l.before.before.before.before.before.args.b 0 l.look.result l.look.ensures c.if1.true)
+    rw (looked-broken c.args.b 0 c.look.result c.look.ensures c.if-look-eq-BROKEN.true)
 
 -- past the check the board is well formed
-is-well : (c : tie.Else1) → well_board c.before.before.before.before.before.before.args.b ≡ true
+is-well : (c : tie.Else-look-eq-BROKEN) → well_board c.args.b ≡ true
 is-well c =
-    let l = c.before in
-    looked-well l.before.before.before.before.before.args.b 0 l.look.result l.look.ensures c.if1.false
+    looked-well c.args.b 0 c.look.result c.look.ensures c.if-look-eq-BROKEN.false
 
-seats-requires : tie.Need-seats-requires
+seats-requires : tie.Need-seats-found-requires
 seats-requires c κs =
-    let s = sound c.before.before.before.before.before.before.before.args.b (is-well c.before) in
+    let s = sound c.args.b (is-well c.before) in
     (s.few-rows, s.apart)
 
-all-assigned-requires : tie.Need-all-assigned-requires
+all-assigned-requires : tie.Need-all_assigned-requires
 all-assigned-requires c κs =
     let s = c.before.before.before in
-    let a = s.before.before.before.before.before.before.before.before.args in
+    let a = s.args in
     let w = is-well s.before.before in (
-      ready-few a.b w a.list.now _ s.seats.new.1.1.1.0 refl s.seats.result s.seats.ensures c.before.enum_told.given.1,
-      ready-below a.b w a.list.now _ s.seats.new.1.1.1.0 refl s.seats.result s.seats.ensures c.before.enum_told.given.1,
+      ready-few a.b w a.list.now _ s.seats-found.new.at refl s.seats-found.result s.seats-found.ensures c.in-Done.is,
+      ready-below a.b w a.list.now _ s.seats-found.new.at refl s.seats-found.result s.seats-found.ensures c.in-Done.is,
     )
 
-returns-2 : tie.Need-returns-2
+returns-2 : tie.Need-returns-in-Refused
 returns-2 c =
     let s = c.before.before.before in
-    let a = s.before.before.before.before.before.before.before.before.args in
-    ready_refused a.b (is-well s.before.before) a.list.now _ s.seats.new.1.1.1.0 refl s.seats.result s.seats.ensures c.before.found.given.0.0 c.before.found.given.1
+    let a = s.args in
+    ready_refused a.b (is-well s.before.before) a.list.now _ s.seats-found.new.at refl s.seats-found.result s.seats-found.ensures c.in-Refused.GIVEN.0.0 c.in-Refused.is
 
-returns-3 : tie.Need-returns-3
+returns-3 : tie.Need-returns-in-Done
 returns-3 c =
     let s = c.before.before.before.before in
-    let a = s.before.before.before.before.before.before.before.before.args in
-    ready-told a.b (is-well s.before.before) a.list.now _ s.seats.new.1.1.1.0 refl s.seats.result s.seats.ensures c.before.before.enum_told.given.1 c.all-assigned.result c.all-assigned.ensures
+    let a = s.args in
+    ready-told a.b (is-well s.before.before) a.list.now _ s.seats-found.new.at refl s.seats-found.result s.seats-found.ensures c.in-Done.is c.all_assigned.result c.all_assigned.ensures
 
-pub ready-spec : {M : Type 1} → statement M
-ready-spec =
+pub ready_spec : {M : Type 1} → statement M
+ready_spec =
     tie.close
     (tie.spec
     (λ c κs. search rules)
