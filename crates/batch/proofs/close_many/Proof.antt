@@ -11,6 +11,7 @@ use Rattle.batch.proofs.BoardLaws.{board-fit}
 use Rattle.batch.proofs.Theorems.{batch-refuses, tally-batch}
 use Rattle.batch.proofs.close_many.Statement.{statement}
 use Rattle.batch.proofs.close_many.Tie as tie
+use Rattle.batch.proofs.close_many.Lts.{then-n-gt256, else-n-gt256}
 
 all-cells : (c : tie.Start) → Whole c.args.b
 all-cells c = record { rows = search (rules, mapped); saved = search rules }
@@ -25,10 +26,10 @@ capped : (c : tie.Joined-n-gt256) → let a = c.args in take c.if-n-gt256.k a.cs
 capped c =
     let a = c.args in
     let long : length a.cs ≡ 256 = search (rules, all-closings) in
-    ⊎_elim
-    (λ w. take_all c.if-n-gt256.k a.cs (omega (arith, w.1)) ∙ sym (take_all a.n a.cs (omega (arith, w.0.taken))))
-    (λ w. ap (λ (k : ℕ). take k a.cs) w.1)
-    c.if-n-gt256.branch
+    elim c.if-n-gt256.branch [
+      | then-n-gt256 w ↦ take_all c.if-n-gt256.k a.cs (omega (arith, w.k-is)) ∙ sym (take_all a.n a.cs (omega (arith, w.if-n-gt256.true)))
+      | else-n-gt256 w ↦ ap (λ (k : ℕ). take k a.cs) w.k-is
+    ]
 
 returns : tie.Need-returns-then-look-eq-BROKEN
 returns c =
@@ -38,14 +39,13 @@ returns c =
 close-rows-requires : tie.Need-close_rows-t-requires
 close-rows-requires c κs =
     let b = c.args.b in
-    (board-fit b (well-here c), ⊎_elim (λ w. omega (arith, w.1)) (λ w. omega (arith, w.0.left, w.1)) c.if-n-gt256.branch)
+    (board-fit b (well-here c), elim c.if-n-gt256.branch [ then-n-gt256 w ↦ omega (arith, w.k-is) | else-n-gt256 w ↦ omega (arith, w.if-n-gt256.false, w.k-is) ])
 
 returns-2 : tie.Need-returns
 returns-2 c =
-    let j = c.before.before.before.before in
     let r = c.close_rows-t in
-    let a = j.args in
-    tally-batch a.b (all-cells j.before.before.before.before.before.before) (well-here j) (take a.n a.cs) r.result (r.ensures ∙ ap (tally_of a.b.count (untold a.b.rows)) (capped j))
+    let a = c.args in
+    tally-batch a.b (all-cells c.before.before.before.before.before.before.before.before.before.before) (well-here c.before.before.before.before) (take a.n a.cs) r.result (r.ensures ∙ ap (tally_of a.b.count (untold a.b.rows)) (capped c.before.before.before.before))
 
 pub close_many_spec : {M : Type 1} → statement M
 close_many_spec =

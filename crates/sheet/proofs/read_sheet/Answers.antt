@@ -27,53 +27,53 @@ returns-in-Bad c =
     let x = c.args.s.now in
     let sh : length x ≤ 32768 = omega arith in
     let d = c.read_destinations-d in
-    let k = destinations-fault (section 64 destination x 0) d.result c.in-Bad.GIVEN.0.0 c.in-Bad.GIVEN.0.1.0 d.ensures c.in-Bad.is in
-    c.no_sheet-in-Bad.ensures ∙ ap read_of (sym (sheet-first x sh c.in-Bad.GIVEN.0.0 c.in-Bad.GIVEN.0.1.0 k))
+    let k = destinations-fault (section 64 destination x 0) d.result c.in-Bad.k c.in-Bad.p d.ensures c.in-Bad.is in
+    c.no_sheet-in-Bad.ensures ∙ ap read_of (sym (sheet-first x sh c.in-Bad.k c.in-Bad.p k))
 
 pub returns-in-Bad-after_c : goal.returns-in-Bad-after_c
 returns-in-Bad-after_c c =
     let x = c.args.s.now in
     let sh : length x ≤ 32768 = omega arith in
     let d = c.read_destinations-d in
-    let dk = destinations-at (section 64 destination x 0) d.result c.in-At.GIVEN.0.0 d.ensures c.in-At.is in
+    let dk = destinations-at (section 64 destination x 0) d.result c.in-At.e d.ensures c.in-At.is in
     let q = c.read_closings-c in
-    let k = closings-fault (section 256 closing x c.in-At.GIVEN.0.0) q.result c.in-Bad-after_c.GIVEN.0.0 c.in-Bad-after_c.GIVEN.0.1.0 q.ensures c.in-Bad-after_c.is in
-    c.no_sheet-in-Bad-after_c.ensures ∙ ap read_of (sym (sheet-second x sh dk.0 c.in-At.GIVEN.0.0 dk.1 c.in-Bad-after_c.GIVEN.0.0 c.in-Bad-after_c.GIVEN.0.1.0 k))
+    let k = closings-fault (section 256 closing x c.in-At.e) q.result c.in-Bad-after_c.k c.in-Bad-after_c.p q.ensures c.in-Bad-after_c.is in
+    c.no_sheet-in-Bad-after_c.ensures ∙ ap read_of (sym (sheet-second x sh dk.0 c.in-At.e dk.1 c.in-Bad-after_c.k c.in-Bad-after_c.p k))
 
 pub returns-in-Bad-after_l : goal.returns-in-Bad-after_l
 returns-in-Bad-after_l c =
     let x = c.args.s.now in
     let sh : length x ≤ 32768 = omega arith in
     let d = c.read_destinations-d in
-    let dk = destinations-at (section 64 destination x 0) d.result c.in-At.GIVEN.0.0 d.ensures c.in-At.is in
+    let dk = destinations-at (section 64 destination x 0) d.result c.in-At.e d.ensures c.in-At.is in
     let q = c.read_closings-c in
-    let qk = closings-at (section 256 closing x c.in-At.GIVEN.0.0) q.result c.in-At-after_c.GIVEN.0.0 q.ensures c.in-At-after_c.is in
+    let qk = closings-at (section 256 closing x c.in-At.e) q.result c.in-At-after_c.f q.ensures c.in-At-after_c.is in
     let l = c.read_lists-l in
-    let k = lists-fault (section 16 list x c.in-At-after_c.GIVEN.0.0) l.result c.in-Bad-after_l.GIVEN.0.0 c.in-Bad-after_l.GIVEN.0.1.0 l.ensures c.in-Bad-after_l.is in
-    c.no_sheet-in-Bad-after_l.ensures ∙ ap read_of (sym (sheet-third x sh dk.0 c.in-At.GIVEN.0.0 dk.1 qk.0 c.in-At-after_c.GIVEN.0.0 qk.1 c.in-Bad-after_l.GIVEN.0.0 c.in-Bad-after_l.GIVEN.0.1.0 k))
+    let k = lists-fault (section 16 list x c.in-At-after_c.f) l.result c.in-Bad-after_l.k c.in-Bad-after_l.p l.ensures c.in-Bad-after_l.is in
+    c.no_sheet-in-Bad-after_l.ensures ∙ ap read_of (sym (sheet-third x sh dk.0 c.in-At.e dk.1 qk.0 c.in-At-after_c.f qk.1 c.in-Bad-after_l.k c.in-Bad-after_l.p k))
 
 pub returns-then-g-s : goal.returns-then-g-s
 returns-then-g-s c =
     let x = c.args.s.now in
     let sh : length x ≤ 32768 = omega arith in
     let d = c.read_destinations-d in
-    let dk = destinations-at (section 64 destination x 0) d.result c.in-At.GIVEN.0.0 d.ensures c.in-At.is in
+    let dk = destinations-at (section 64 destination x 0) d.result c.in-At.e d.ensures c.in-At.is in
     let q = c.read_closings-c in
-    let qk = closings-at (section 256 closing x c.in-At.GIVEN.0.0) q.result c.in-At-after_c.GIVEN.0.0 q.ensures c.in-At-after_c.is in
+    let qk = closings-at (section 256 closing x c.in-At.e) q.result c.in-At-after_c.f q.ensures c.in-At-after_c.is in
     let l = c.read_lists-l in
-    let lk = lists_at (section 16 list x c.in-At-after_c.GIVEN.0.0) l.result c.in-At-after_l.GIVEN.0.0 l.ensures c.in-At-after_l.is in
+    let lk = lists_at (section 16 list x c.in-At-after_c.f) l.result c.in-At-after_l.g l.ensures c.in-At-after_l.is in
     c.no_sheet-then-g-s.ensures
-    ∙ ap read_of (sym (sheet-more x sh dk.0 c.in-At.GIVEN.0.0 dk.1 qk.0 c.in-At-after_c.GIVEN.0.0 qk.1 lk.0 c.in-At-after_l.GIVEN.0.0 lk.1 (omega arith)))
+    ∙ ap read_of (sym (sheet-more x sh dk.0 c.in-At.e dk.1 qk.0 c.in-At-after_c.f qk.1 lk.0 c.in-At-after_l.g lk.1 (omega arith)))
 
 pub returns-else-g-s : goal.returns-else-g-s
 returns-else-g-s c =
     let x = c.args.s.now in
     let sh : length x ≤ 32768 = omega arith in
     let d = c.read_destinations-d in
-    let dk = destinations-at (section 64 destination x 0) d.result c.in-At.GIVEN.0.0 d.ensures c.in-At.is in
+    let dk = destinations-at (section 64 destination x 0) d.result c.in-At.e d.ensures c.in-At.is in
     let q = c.read_closings-c in
-    let qk = closings-at (section 256 closing x c.in-At.GIVEN.0.0) q.result c.in-At-after_c.GIVEN.0.0 q.ensures c.in-At-after_c.is in
+    let qk = closings-at (section 256 closing x c.in-At.e) q.result c.in-At-after_c.f q.ensures c.in-At-after_c.is in
     let l = c.read_lists-l in
-    let lk = lists_at (section 16 list x c.in-At-after_c.GIVEN.0.0) l.result c.in-At-after_l.GIVEN.0.0 l.ensures c.in-At-after_l.is in
-    let e = sheet-read x sh dk.0 c.in-At.GIVEN.0.0 dk.1 qk.0 c.in-At-after_c.GIVEN.0.0 qk.1 lk.0 c.in-At-after_l.GIVEN.0.0 lk.1 (omega arith) in
-    made-path _ _ _ _ _ _ _ _ _ _ _ _ _ _ c.in-At-after_l.GIVEN.0.0 dk.2 dk.3 qk.2 qk.3 lk.2 lk.3 lk.4 ∙ ap read_of (sym e)
+    let lk = lists_at (section 16 list x c.in-At-after_c.f) l.result c.in-At-after_l.g l.ensures c.in-At-after_l.is in
+    let e = sheet-read x sh dk.0 c.in-At.e dk.1 qk.0 c.in-At-after_c.f qk.1 lk.0 c.in-At-after_l.g lk.1 (omega arith) in
+    made-path _ _ _ _ _ _ _ _ _ _ _ _ _ _ c.in-At-after_l.g dk.2 dk.3 qk.2 qk.3 lk.2 lk.3 lk.4 ∙ ap read_of (sym e)

@@ -12,6 +12,7 @@ use Rattle.batch.specs.declared.Tally.{Tally}
 use Rattle.batch.proofs.TallyLaws.{all-closings, none, tally, more-most, tallied-known, tallied-unknown, Kept, kept-none, kept-all, tally-next}
 use Rattle.batch.proofs.inner.close_rows.Statement.{statement}
 use Rattle.batch.proofs.inner.close_rows.Tie as tie
+use Rattle.batch.proofs.inner.close_rows.Lts.{then-at-lt-NOWHERE, else-at-lt-NOWHERE}
 
 abbrev invariant-loop : tie.invariant-loop-i
 invariant-loop count n cs ids hints rows₀ yes₀ i₀ rows n' i = (i ≤ n) × (n' ≤ i) × (tally rows n' ≡ tally_of count (untold rows₀) (take i cs))
@@ -27,40 +28,40 @@ module _ (c : tie.After-find-at invariant-loop decreases-loop) where
   abbrev start : tie.Start invariant-loop decreases-loop
   start = loop.before.before.before.before
 
-  within : loop.loop.i < start.args.n
-  within = c.before.before.before.before.loop-test.true
+  within : loop.loop-i.i < start.args.n
+  within = c.loop-i-test.true
 
-  long : length start.args.t3 ≡ 256
+  long : length start.args.cs ≡ 256
   long = search (rules, all-closings)
 
   abbrev here : Closing
-  here = get_or start.args.t3 loop.loop.i none
+  here = get_or start.args.cs loop.loop-i.i none
 
   abbrev now : Tally
-  now = tally loop.loop.rows loop.loop.yes
+  now = tally loop.loop-i.rows loop.loop-i.yes
 
   kept : Kept start.args.rows start.args.count now
   kept =
-      subst (Kept start.args.rows start.args.count) (sym loop.loop.inv.2)
-      (kept-all start.args.rows start.args.count (untold start.args.rows) (take loop.loop.i start.args.t3) (kept-none start.args.rows start.args.count (search (rules, mapped)) start.pre.0))
+      subst (Kept start.args.rows start.args.count) (sym loop.loop-i.invariant.2)
+      (kept-all start.args.rows start.args.count (untold start.args.rows) (take loop.loop-i.i start.args.cs) (kept-none start.args.rows start.args.count (search (rules, mapped)) start.requires.0))
 
   -- the ids gathered at first are those of the rows now
-  seat-is : c.find.result ≡ seat_in (id_at loop.loop.rows) start.args.count here.id.0
+  seat-is : c.find-at.result ≡ seat_in (id_at loop.loop-i.rows) start.args.count here.id.0
   seat-is =
-      c.find.ensures
-      ∙ seat-agree (λ j. get_or loop.before.before.before.ids-of.result j 0) (id_at loop.loop.rows) start.args.count here.id.0
-      (λ k l. loop.before.before.before.ids-of.ensures k l ∙ sym (kept.ids k))
+      c.find-at.ensures
+      ∙ seat-agree (λ j. get_or loop.before.before.before.ids_of-ids.result j 0) (id_at loop.loop-i.rows) start.args.count here.id.0
+      (λ k l. loop.before.before.before.ids_of-ids.ensures k l ∙ sym (kept.ids k))
 
-  seat-below : c.find.result < 64 → c.find.result < start.args.count
+  seat-below : c.find-at.result < 64 → c.find-at.result < start.args.count
   seat-below h =
       let e = seat-is in
-      let l = (seated (id_at loop.loop.rows) start.args.count here.id.0 (omega (arith, e, h))).0 in
+      let l = (seated (id_at loop.loop-i.rows) start.args.count here.id.0 (omega (arith, e, h))).0 in
       omega (arith, e, l)
 
-  next-is : tallied start.args.count now here ≡ tally_of start.args.count (untold start.args.rows) (take (loop.loop.i + 1) start.args.t3)
+  next-is : tallied start.args.count now here ≡ tally_of start.args.count (untold start.args.rows) (take (loop.loop-i.i + 1) start.args.cs)
   next-is =
-      ap (λ (t : Tally). tallied start.args.count t here) loop.loop.inv.2
-      ∙ tally-next start.args.count (untold start.args.rows) start.args.t3 loop.loop.i (omega (arith, within, long))
+      ap (λ (t : Tally). tallied start.args.count t here) loop.loop-i.invariant.2
+      ∙ tally-next start.args.count (untold start.args.rows) start.args.cs loop.loop-i.i (omega (arith, within, long))
 
 ids-of-requires : tie.Need-ids_of-ids-requires invariant-loop decreases-loop
 ids-of-requires c κs = c.requires.0.few
@@ -83,7 +84,7 @@ array-copy-out-row c = search (rules, mapped)
 
 shut-row-requires : tie.Need-shut_row-s-requires invariant-loop decreases-loop
 shut-row-requires c κs =
-    let f = c.before.before in
+    let f = c.before.before.before in
     (kept f).domains f.find-at.result (seat-below f c.if-at-lt-NOWHERE.true)
 
 array-set-from-rows : tie.Need-bounds-rows-at-then-at-lt-NOWHERE invariant-loop decreases-loop
@@ -94,20 +95,20 @@ module _ (c : tie.Joined-at-lt-NOWHERE invariant-loop decreases-loop) where
   abbrev f : tie.After-find-at invariant-loop decreases-loop
   f = c.before
 
-  few : c.if1.yes ≤ (loop f).loop.i + 1
+  few : c.if-at-lt-NOWHERE.yes ≤ (loop f).loop-i.i + 1
   few =
-      ⊎_elim
-      (λ w. omega (arith, w.6, w.4.ensures, more-most w.2.result.yes (loop f).loop.yes, (loop f).loop.inv.1))
-      (λ w. omega (arith, w.2, (loop f).loop.inv.1))
-      c.if1.branch
+      elim c.if-at-lt-NOWHERE.branch [
+        | then-at-lt-NOWHERE w ↦ omega (arith, w.yes-is, w.counted-yes.ensures, more-most w.shut_row-s.result.yes (loop f).loop-i.yes, (loop f).loop-i.invariant.1)
+        | else-at-lt-NOWHERE w ↦ omega (arith, w.yes-is, (loop f).loop-i.invariant.1)
+      ]
 
-  same : tally c.if1.rows c.if1.yes ≡ tallied (start f).args.count (now f) (here f)
+  same : tally c.if-at-lt-NOWHERE.rows c.if-at-lt-NOWHERE.yes ≡ tallied (start f).args.count (now f) (here f)
   same =
       let n = (start f).args.count in
-      ⊎_elim
-      (λ w. (λ i. tally (w.5 i) ((w.6 ∙ w.4.ensures) i)) ∙ tallied-known n (now f) (here f) f.find.result (seat-is f) w.0.taken w.2.result w.2.ensures)
-      (λ w. (λ i. tally (w.1 i) (w.2 i)) ∙ tallied-unknown n (now f) (here f) (let h = w.0.left in rw (seat-is f) at h))
-      c.if1.branch
+      elim c.if-at-lt-NOWHERE.branch [
+        | then-at-lt-NOWHERE w ↦ (λ i. tally (w.rows-is i) ((w.yes-is ∙ w.counted-yes.ensures) i)) ∙ tallied-known n (now f) (here f) f.find-at.result (seat-is f) w.if-at-lt-NOWHERE.true w.shut_row-s.result w.shut_row-s.ensures
+        | else-at-lt-NOWHERE w ↦ (λ i. tally (w.rows-is i) (w.yes-is i)) ∙ tallied-unknown n (now f) (here f) (let h = w.if-at-lt-NOWHERE.false in rw (seat-is f) at h)
+      ]
 
 loop-again : tie.Need-loop-i-preserved invariant-loop decreases-loop
 loop-again c = (omega (arith, within c.before), few c, same c ∙ next-is c.before)

@@ -10,7 +10,7 @@ pub returns-in-Domain : goal.returns-in-Domain
 unfolding assigned_value_of
 returns-in-Domain c =
     let a = c.args in
-    answered fixed_value_of (found.Refused Broken) a.b a.id c.domain_of-sought.result c.domain_of-sought.ensures c.fixed_value.result c.in-Domain.GIVEN.0.0 c.fixed_value.ensures c.in-Domain.is
+    answered fixed_value_of (found.Refused Broken) a.b a.id c.domain_of-sought.result c.domain_of-sought.ensures c.fixed_value.result c.in-Domain.d c.fixed_value.ensures c.in-Domain.is
 
 pub returns-in-Broken : goal.returns-in-Broken
 unfolding assigned_value_of

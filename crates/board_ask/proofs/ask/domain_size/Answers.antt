@@ -10,7 +10,7 @@ pub returns-in-Domain : goal.returns-in-Domain
 unfolding domain_size_of
 returns-in-Domain c =
     let a = c.args in
-    answered size_of (counted.Refused Broken) a.b a.id c.domain_of-sought.result c.domain_of-sought.ensures c.size.result c.in-Domain.GIVEN.0.0 c.size.ensures c.in-Domain.is
+    answered size_of (counted.Refused Broken) a.b a.id c.domain_of-sought.result c.domain_of-sought.ensures c.size.result c.in-Domain.d c.size.ensures c.in-Domain.is
 
 pub returns-in-Broken : goal.returns-in-Broken
 unfolding domain_size_of

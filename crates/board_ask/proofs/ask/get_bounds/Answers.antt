@@ -9,7 +9,7 @@ pub returns-in-Domain : goal.returns-in-Domain
 unfolding get_bounds_of
 returns-in-Domain c =
     let a = c.args in
-    answered ends_of (bounds.Refused Broken) a.b a.id c.domain_of-sought.result c.domain_of-sought.ensures c.ends.result c.in-Domain.GIVEN.0.0 c.ends.ensures c.in-Domain.is
+    answered ends_of (bounds.Refused Broken) a.b a.id c.domain_of-sought.result c.domain_of-sought.ensures c.ends.result c.in-Domain.d c.ends.ensures c.in-Domain.is
 
 pub returns-in-Broken : goal.returns-in-Broken
 unfolding get_bounds_of

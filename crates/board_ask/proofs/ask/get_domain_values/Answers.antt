@@ -10,7 +10,7 @@ pub returns-in-Domain : goal.returns-in-Domain
 unfolding get_values_of
 returns-in-Domain c =
     let a = c.args in
-    answered iter_of (begun.Refused Broken) a.b a.id c.domain_of-sought.result c.domain_of-sought.ensures c.iter.result c.in-Domain.GIVEN.0.0 c.iter.ensures c.in-Domain.is
+    answered iter_of (begun.Refused Broken) a.b a.id c.domain_of-sought.result c.domain_of-sought.ensures c.iter.result c.in-Domain.d c.iter.ensures c.in-Domain.is
 
 pub returns-in-Broken : goal.returns-in-Broken
 unfolding get_values_of

@@ -9,15 +9,11 @@ use Rattle.board_ask.proofs.ask.get_domain_values_into.Goals as goal
 pub returns-in-Domain : goal.returns-in-Domain
 unfolding get_into_of
 returns-in-Domain c =
-    let t = c.before in
-    let m = t.before.before.before in
-    let d = m.before.before in
-    let a = d.args in
-    answered (λ d. to_vec_of d a.cells.now) (written (counted.Refused Broken) a.cells.now) a.b a.id d.domain_of-sought.result d.domain_of-sought.ensures (written t.to_vec.result t.to_vec.new.cells) m.in-Domain.GIVEN.0.0 t.to_vec.ensures m.in-Domain.is
+    let a = c.args in
+    answered (λ d. to_vec_of d a.cells.now) (written (counted.Refused Broken) a.cells.now) a.b a.id c.domain_of-sought.result c.domain_of-sought.ensures (written c.to_vec.result c.to_vec.new.cells) c.in-Domain.d c.to_vec.ensures c.in-Domain.is
 
 pub returns-in-Broken : goal.returns-in-Broken
 unfolding get_into_of
 returns-in-Broken c =
-    let d = c.before.before in
-    let a = d.args in
-    refused (λ d. to_vec_of d a.cells.now) (written (counted.Refused Broken) a.cells.now) a.b a.id d.domain_of-sought.result d.domain_of-sought.ensures c.in-Broken.is
+    let a = c.args in
+    refused (λ d. to_vec_of d a.cells.now) (written (counted.Refused Broken) a.cells.now) a.b a.id c.domain_of-sought.result c.domain_of-sought.ensures c.in-Broken.is

@@ -10,7 +10,7 @@ pub returns-in-Domain : goal.returns-in-Domain
 unfolding is_assigned_of
 returns-in-Domain c =
     let a = c.args in
-    answered is_fixed_of (told.Refused Broken) a.b a.id c.domain_of-sought.result c.domain_of-sought.ensures c.is_fixed.result c.in-Domain.GIVEN.0.0 c.is_fixed.ensures c.in-Domain.is
+    answered is_fixed_of (told.Refused Broken) a.b a.id c.domain_of-sought.result c.domain_of-sought.ensures c.is_fixed.result c.in-Domain.d c.is_fixed.ensures c.in-Domain.is
 
 pub returns-in-Broken : goal.returns-in-Broken
 unfolding is_assigned_of

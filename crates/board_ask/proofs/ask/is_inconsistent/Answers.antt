@@ -10,7 +10,7 @@ pub returns-in-Domain : goal.returns-in-Domain
 unfolding is_inconsistent_of
 returns-in-Domain c =
     let a = c.args in
-    answered is_empty_of (told.Refused Broken) a.b a.id c.domain_of-sought.result c.domain_of-sought.ensures c.is_empty.result c.in-Domain.GIVEN.0.0 c.is_empty.ensures c.in-Domain.is
+    answered is_empty_of (told.Refused Broken) a.b a.id c.domain_of-sought.result c.domain_of-sought.ensures c.is_empty.result c.in-Domain.d c.is_empty.ensures c.in-Domain.is
 
 pub returns-in-Broken : goal.returns-in-Broken
 unfolding is_inconsistent_of

@@ -30,19 +30,16 @@ returns-2 c =
 
 write-requires : tie.Need-write-requires
 write-requires c κs =
-    let e = c.before.before in
-    ((sound e.args.b (is-well e)).few-rows, c.if-cells-count.false)
+    ((sound c.args.b (is-well c.before.before)).few-rows, c.if-cells-count.false)
 
 returns-3 : tie.Need-returns
 unfolding ids_into_of
 returns-3 c =
-    let w = c.before.before in
-    let r = w.before.before in
-    let a = r.args in
+    let a = c.args in
     let names = names_of (id_at a.b.rows) 0 a.b.count in
     let n : a.b.count ≡ length names = sym (names-length (id_at a.b.rows) 0 a.b.count) in
-    rw (is-well r.before, le-ltb (length a.cells.now) (length names) (omega (arith, n, r.if-cells-count.false)))
-    ((λ t. filled (counted.Count (n t)) (w.write.ensures t)) ∙ (λ t. filled (counted.Count (length names)) (names ++ drop (n t) a.cells.now)))
+    rw (is-well c.before.before.before.before.before, le-ltb (length a.cells.now) (length names) (omega (arith, n, c.if-cells-count.false)))
+    ((λ t. filled (counted.Count (n t)) (c.write.ensures t)) ∙ (λ t. filled (counted.Count (length names)) (names ++ drop (n t) a.cells.now)))
 
 pub variables_into_spec : {M : Type 1} → statement M
 variables_into_spec =

@@ -26,24 +26,21 @@ seats-requires c κs =
 
 all-assigned-requires : tie.Need-all_assigned-requires
 all-assigned-requires c κs =
-    let s = c.before.before.before in
-    let a = s.args in
-    let w = is-well s.before.before in (
-      ready-few a.b w a.list.now _ s.seats-found.new.at refl s.seats-found.result s.seats-found.ensures c.in-Done.is,
-      ready-below a.b w a.list.now _ s.seats-found.new.at refl s.seats-found.result s.seats-found.ensures c.in-Done.is,
+    let a = c.args in
+    let w = is-well c.before.before.before.before in (
+      ready-few a.b w a.list.now _ c.seats-found.new.at refl c.seats-found.result c.seats-found.ensures c.in-Done.is,
+      ready-below a.b w a.list.now _ c.seats-found.new.at refl c.seats-found.result c.seats-found.ensures c.in-Done.is,
     )
 
 returns-2 : tie.Need-returns-in-Refused
 returns-2 c =
-    let s = c.before.before.before in
-    let a = s.args in
-    ready_refused a.b (is-well s.before.before) a.list.now _ s.seats-found.new.at refl s.seats-found.result s.seats-found.ensures c.in-Refused.GIVEN.0.0 c.in-Refused.is
+    let a = c.args in
+    ready_refused a.b (is-well c.before.before.before) a.list.now _ c.seats-found.new.at refl c.seats-found.result c.seats-found.ensures c.in-Refused.r c.in-Refused.is
 
 returns-3 : tie.Need-returns-in-Done
 returns-3 c =
-    let s = c.before.before.before.before in
-    let a = s.args in
-    ready-told a.b (is-well s.before.before) a.list.now _ s.seats-found.new.at refl s.seats-found.result s.seats-found.ensures c.in-Done.is c.all_assigned.result c.all_assigned.ensures
+    let a = c.args in
+    ready-told a.b (is-well c.before.before.before.before.before) a.list.now _ c.seats-found.new.at refl c.seats-found.result c.seats-found.ensures c.in-Done.is c.all_assigned.result c.all_assigned.ensures
 
 pub ready_spec : {M : Type 1} → statement M
 ready_spec =

@@ -1,78 +1,75 @@
 -- `board_spread::inner::scatter` meets its contract: from the last place to the first, a row gets its mask. Assumes nothing.
-use mathlib.Core.Path.{◌≡◌, ap, ◌∙◌}
-use Prim.Native.Nat.{ℕ, suc, ◌-◌, ◌≤◌, ◌<◌}
-use native.Mathlib.Omega.{arith}
+use Rattle.std.specs.Prelude.{◌≡◌, ℕ, suc, ◌-◌, ◌≤◌, ◌<◌}
+use Rattle.std.proofs.Common.{ap, ◌∙◌, arith, rules}
 use lib.ListN.{get_or}
 use Rattle.board_spread.specs.Gather.{hold_from}
 use Rattle.board_spread.proofs.Holds.{hold-more}
-use borrow.Author.Rules.{rules}
 use Rattle.board_spread.proofs.inner.scatter.Statement.{statement}
 use Rattle.board_spread.proofs.inner.scatter.Tie as tie
 
-abbrev invariant-loop : tie.invariant-loop
+abbrev invariant-loop : tie.invariant-loop-p
 invariant-loop at n ms left₀ p₀ left p = (p ≤ n) × (left ≡ hold_from left₀ at ms p (n - p))
 
-abbrev decreases-loop : tie.decreases-loop
+abbrev decreases-loop : tie.decreases-loop-p
 decreases-loop at n ms left₀ p₀ left p = p
 
-loop-holds : tie.Need-loop-init invariant-loop decreases-loop
+loop-holds : tie.Need-loop-p-init invariant-loop decreases-loop
 loop-holds c =
     let a = c.args in
     let z : 0 ≡ a.n - a.n = omega arith in
     (search rules, ap (hold_from a.rows a.at.now a.ms.now a.n) z)
 
-sub-p : tie.Need-overflow-sub-p invariant-loop decreases-loop
+sub-p : tie.Need-overflow_sub-p invariant-loop decreases-loop
 sub-p c = search rules
 
-mul-place : tie.Need-overflow-mul-place invariant-loop decreases-loop
+mul-place : tie.Need-offset_bounds-at-p invariant-loop decreases-loop
 mul-place c = search rules
 
-element-copy-out-place : tie.Need-element-copy-out-place invariant-loop decreases-loop
+element-copy-out-place : tie.Need-bounds-at-p invariant-loop decreases-loop
 element-copy-out-place c = search rules
 
 -- the row that gets its mask
-below : (c : tie.In-loop invariant-loop decreases-loop) → get_or c.before.before.args.at.now (c.before.loop.p - 1) 0 < 64
-below c = let s = c.before in s.before.requires.1 (s.loop.p - 1) (omega (arith, s.loop.invariant.0, c.loop-test.true))
+below : (c : tie.In-loop-p invariant-loop decreases-loop) → get_or c.args.at.now (c.loop-p.p - 1) 0 < 64
+below c = c.requires.1 (c.loop-p.p - 1) (omega (arith, c.loop-p.invariant.0, c.loop-p-test.true))
 
-mul-row : tie.Need-overflow-mul-row invariant-loop decreases-loop
-mul-row c = let l = below c.before in search rules
+mul-row : tie.Need-offset_bounds-left-place invariant-loop decreases-loop
+mul-row c = let l = below c.before.before in search rules
 
-array-copy-out-row : tie.Need-array-copy-out-row invariant-loop decreases-loop
-array-copy-out-row c = below c.before
+array-copy-out-row : tie.Need-bounds-left-place invariant-loop decreases-loop
+array-copy-out-row c = below c.before.before
 
-at-requires : tie.Need-at-requires invariant-loop decreases-loop
+at-requires : tie.Need-at-d-requires invariant-loop decreases-loop
 at-requires c κs = search rules
 
-mul_left : tie.Need-overflow-mul-left invariant-loop decreases-loop
-mul_left c = let l = below c.before.before.before.before in search rules
+mul_left : tie.Need-offset_bounds-left-place-in-loop-p invariant-loop decreases-loop
+mul_left c = let l = below c.before.before.before.before.before in search rules
 
-array-set-from-left : tie.Need-array-set-from-left invariant-loop decreases-loop
-array-set-from-left c = below c.before.before.before.before
+array-set-from-left : tie.Need-bounds-left-place-in-loop-p invariant-loop decreases-loop
+array-set-from-left c = below c.before.before.before.before.before
 
-loop-less : tie.Need-loop-smaller invariant-loop decreases-loop
+loop-less : tie.Need-loop-p-smaller invariant-loop decreases-loop
 loop-less c = search rules
 
-loop-again : tie.Need-loop-preserved invariant-loop decreases-loop
+loop-again : tie.Need-loop-p-preserved invariant-loop decreases-loop
 loop-again c =
-    let s = c.before.before.before.before.before in
-    let a = s.before.args in
-    let i = s.loop in
+    let a = c.args in
+    let i = c.loop-p in
     let l : i.p - 1 < a.n = search rules in
     let z : i.p ≡ suc (i.p - 1) = search rules in
     let e = i.invariant.1 ∙ ap (λ (j : ℕ). hold_from a.rows a.at.now a.ms.now j (a.n - j)) z in
-    (search rules, hold-more a.rows a.at.now a.ms.now a.n (i.p - 1) l i.left e c.at.result c.at.ensures (search rules))
+    (search rules, hold-more a.rows a.at.now a.ms.now a.n (i.p - 1) l i.left e c.at-d.result c.at-d.ensures (search rules))
 
 returns : tie.Need-returns invariant-loop decreases-loop
 returns c =
-    let a = c.before.before.args in
-    let z : c.before.loop.p ≡ 0 = search rules in
+    let a = c.args in
+    let z : c.loop-p.p ≡ 0 = search rules in
     let y : a.n - 0 ≡ a.n = omega arith in
-    c.before.loop.invariant.1
+    c.loop-p.invariant.1
     ∙ ap (λ (j : ℕ). hold_from a.rows a.at.now a.ms.now j (a.n - j)) z
     ∙ ap (hold_from a.rows a.at.now a.ms.now 0) y
 
-pub scatter-spec : {M : Type 1} → statement M
-scatter-spec =
+pub scatter_spec : {M : Type 1} → statement M
+scatter_spec =
     tie.close
     (tie.spec
     invariant-loop
