@@ -1,9 +1,6 @@
 -- `wave_print::put_board` meets its contract: the destinations' lines, then the lists'.
-use mathlib.Core.Path.{◌∙◌}
-use mathlib.Core.List.{List, ◌++◌}
-use Prim.Native.Nat.{ℕ, ◌+◌, ◌≤◌}
-use native.Mathlib.Omega.{arith}
-use lib.ListN.{length, take}
+use Rattle.std.proofs.Common.{◌∙◌, arith}
+use Rattle.std.specs.Prelude.{List, ◌++◌, ℕ, ◌+◌, ◌≤◌, length, take}
 use Rattle.board.specs.View.{rows_of, held_at}
 use Rattle.wave_print.specs.Print.{rows_text, lines_text, printed}
 use Rattle.wave_print.proofs.Pieces.{first-room, rest-room, then}
@@ -21,31 +18,31 @@ unfolding printed
 asked s = omega (arith, s.requires.2)
 
 -- the lists' lines have the room that the destinations' leave
-left : (c : tie.After-put-rows) → let s = c.before.before.before in c.put-rows.result + length (lines s) ≤ length c.put-rows.new.1.1.0
+left : (c : tie.After-put_rows-at) → c.put_rows-at.result + length (lines c.before.before.before) ≤ length c.put_rows-at.new.out
 left c =
-    let s = c.before.before.before in
-    rest-room (rows s) s.args.out.now 0 c.put-rows.ensures (lines s) (asked s)
+    rest-room (rows c.before.before.before) c.args.out.now 0 c.put_rows-at.ensures (lines c.before.before.before) (asked c.before.before.before)
 
-put-rows-requires : tie.Need-put-rows-requires
+put-rows-requires : tie.Need-put_rows-at-requires
 put-rows-requires c κs =
-    let s = c.before.before in
-    (s.requires.0, omega (arith, first-room (rows s) (lines s) 0 (asked s)))
+    (c.requires.0, omega (arith, first-room (rows c.before.before) (lines c.before.before) 0 (asked c.before.before)))
 
-put-lines-requires : tie.Need-put-lines-requires
-put-lines-requires c κs = let p = c.before.before.before in (p.before.before.before.requires.1, left p)
+put-lines-requires : tie.Need-put_lines-requires
+put-lines-requires c κs = (c.requires.1, left c.before.before.before)
 
-same_length : tie.Need-same-length
+same_length : tie.Need-shape_of-out
 same_length c =
-    let q = c.before.before in
-    q.put-lines.auto.1.1.0 ∙ q.before.before.before.before.put-rows.auto.1.1.0
+    c.put_lines.auto.out ∙ c.put_rows-at.auto.out
 
 returns : tie.Need-returns
 unfolding printed
 returns c =
-    let q = c.before.before in
-    let p = q.before.before.before.before in
-    let s = p.before.before.before in
-    then (rows s) s.args.out.now 0 p.put-rows.ensures (lines s) q.put-lines.ensures
+    then (rows c.before.before.before.before.before.before.before.before.before) c.args.out.now 0 c.put_rows-at.ensures (lines c.before.before.before.before.before.before.before.before.before) c.put_lines.ensures
 
-pub put-board-spec : {M : Type 1} → statement M
-put-board-spec = tie.close (tie.spec put-rows-requires put-lines-requires same_length returns)
+pub put_board_spec : {M : Type 1} → statement M
+put_board_spec =
+    tie.close
+    (tie.spec
+    put-rows-requires
+    put-lines-requires
+    same_length
+    returns)

@@ -1,10 +1,8 @@
 -- `wave_print::put_lines` meets its contract: putting what is left where the text ends so far gives what putting all at the start gives.
-use mathlib.Core.Path.{◌≡◌, refl, sym, ap, ◌∙◌, subst}
-use mathlib.Core.List.{List, ◌++◌, map}
-use Prim.Native.Nat.{ℕ, ◌+◌, ◌-◌, ◌≤◌}
-use native.Mathlib.Omega.{arith}
-use borrow.Author.Rules.{rules}
-use lib.ListN.{length, get_or, length-map}
+use Rattle.std.specs.Prelude.{◌≡◌, refl, List, ◌++◌, map, ℕ, ◌+◌, ◌-◌, ◌≤◌, length}
+use Rattle.std.proofs.Common.{sym, ap, ◌∙◌, subst, arith, rules}
+use Rattle.std.proofs.lemmas.List.{length-map}
+use lib.ListN.{get_or}
 use Rattle.decimal.specs.Put.{put_of}
 use Rattle.sheet_form.specs.declared.Line.{Line}
 use Rattle.wave_print.specs.Print.{line_text}
@@ -13,79 +11,73 @@ use Rattle.wave_print.proofs.Runs.{line0, run_on, lines_left, lines_next, lines_
 use Rattle.wave_print.proofs.put_lines.Statement.{statement}
 use Rattle.wave_print.proofs.put_lines.Tie as tie
 
-abbrev invariant-loop : tie.invariant-loop
+abbrev invariant-loop : tie.invariant-loop-i
 invariant-loop ln out₀ start lines at₀ i₀ out at i =
     (length out ≡ length out₀) × (i ≤ ln) × (at + length (lines_left lines ln i) ≤ length out)
     × (put_of (lines_left lines ln i) out at ≡ put_of (lines_left lines ln 0) out₀ start)
 
-abbrev decreases-loop : tie.decreases-loop
+abbrev decreases-loop : tie.decreases-loop-i
 decreases-loop ln out₀ start lines at₀ i₀ out at i = ln - i
 
 mapped : (Y : Type 0) (g : Line → Y) (l : List Line) (n : ℕ) → length (map g l) ≡ n → length l ≡ n
 mapped Y g l n e = sym (length-map l g) ∙ e
 
-few : (s : tie.Start invariant-loop decreases-loop) → s.args.ln ≤ length s.args.t1
-few s = let l : length s.args.t1 ≡ 16 = search (rules, mapped) in omega (arith, s.requires.0)
+few : (s : tie.Start invariant-loop decreases-loop) → s.args.ln ≤ length s.args.lines
+few s = let l : length s.args.lines ≡ 16 = search (rules, mapped) in omega (arith, s.requires.0)
 
 -- the room for the next line and those after it
-asked : (c : tie.In-loop invariant-loop decreases-loop) → let t = c.before.loop in let a = c.before.before.before.args in
-    t.at + length (line_text t.i (get_or a.t1 t.i line0) ++ lines_left a.t1 a.ln (t.i + 1)) ≤ length t.out
+asked : (c : tie.In-loop-i invariant-loop decreases-loop) → let t = c.loop-i in let a = c.args in
+    t.at + length (line_text t.i (get_or a.lines t.i line0) ++ lines_left a.lines a.ln (t.i + 1)) ≤ length t.out
 asked c =
-    let t = c.before.loop in
-    let s = c.before.before.before in
-    subst (λ (x : List ℕ). t.at + length x ≤ length t.out) (lines_next s.args.t1 s.args.ln t.i c.loop-test.true (few s)) t.invariant.2
+    let t = c.loop-i in
+    subst (λ (x : List ℕ). t.at + length x ≤ length t.out) (lines_next c.args.lines c.args.ln t.i c.loop-i-test.true (few c.before.before.before)) t.invariant.2
 
-loop-holds : tie.Need-loop-init invariant-loop decreases-loop
-loop-holds c = (refl, omega arith, c.before.requires.1, refl)
+loop-holds : tie.Need-loop-i-init invariant-loop decreases-loop
+loop-holds c = (refl, omega arith, c.requires.1, refl)
 
-mul-line : tie.Need-overflow-mul-line invariant-loop decreases-loop
+mul-line : tie.Need-offset_bounds-lines-i invariant-loop decreases-loop
 mul-line c = search rules
 
-array-copy-out-line : tie.Need-array-copy-out-line invariant-loop decreases-loop
+array-copy-out-line : tie.Need-bounds-lines-i invariant-loop decreases-loop
 array-copy-out-line c = search rules
 
-put-line-requires : tie.Need-put-line-requires invariant-loop decreases-loop
+put-line-requires : tie.Need-put_line-at-requires invariant-loop decreases-loop
 put-line-requires c κs =
-    let l = c.before.before in
-    let t = l.before.loop in
-    let a = l.before.before.before.args in
-    first-room (line_text t.i (get_or a.t1 t.i line0)) (lines_left a.t1 a.ln (t.i + 1)) t.at (asked l)
+    let t = c.loop-i in
+    let a = c.args in
+    first-room (line_text t.i (get_or a.lines t.i line0)) (lines_left a.lines a.ln (t.i + 1)) t.at (asked c.before.before)
 
-add-i : tie.Need-overflow-add-i invariant-loop decreases-loop
+add-i : tie.Need-overflow_add-i invariant-loop decreases-loop
 add-i c = search rules
 
-loop-less : tie.Need-loop-smaller invariant-loop decreases-loop
+loop-less : tie.Need-loop-i-smaller invariant-loop decreases-loop
 loop-less c = omega arith
 
-loop-again : tie.Need-loop-preserved invariant-loop decreases-loop
+loop-again : tie.Need-loop-i-preserved invariant-loop decreases-loop
 loop-again c =
-    let p = c.before.before in
-    let l = p.before.before.before in
-    let t = l.before.loop in
-    let s = l.before.before.before in
-    let a = s.args in
-    let line = line_text t.i (get_or a.t1 t.i line0) in
-    let rest = lines_left a.t1 a.ln (t.i + 1) in (
-      p.put-line.auto.1.1.0 ∙ t.invariant.0,
-      omega (arith, l.loop-test.true),
-      rest-room line t.out t.at p.put-line.ensures rest (asked l),
-      run_on line rest t.out t.at p.put-line.ensures
-          ∙ ap (λ (x : List ℕ). put_of x t.out t.at) (sym (lines_next a.t1 a.ln t.i l.loop-test.true (few s)))
+    let t = c.loop-i in
+    let a = c.args in
+    let line = line_text t.i (get_or a.lines t.i line0) in
+    let rest = lines_left a.lines a.ln (t.i + 1) in (
+      c.put_line-at.auto.out ∙ t.invariant.0,
+      omega (arith, c.loop-i-test.true),
+      rest-room line t.out t.at c.put_line-at.ensures rest (asked c.before.before.before.before.before),
+      run_on line rest t.out t.at c.put_line-at.ensures
+          ∙ ap (λ (x : List ℕ). put_of x t.out t.at) (sym (lines_next a.lines a.ln t.i c.loop-i-test.true (few c.before.before.before.before.before.before.before.before)))
           ∙ t.invariant.3,
     )
 
-same_length : tie.Need-same-length invariant-loop decreases-loop
-same_length c = c.before.loop.invariant.0
+same_length : tie.Need-shape_of-out invariant-loop decreases-loop
+same_length c = c.loop-i.invariant.0
 
 returns : tie.Need-returns invariant-loop decreases-loop
 returns c =
-    let t = c.before.loop in
-    let s = c.before.before.before in
-    let e : t.i ≡ s.args.ln = omega (arith, t.invariant.1, c.loop-test.false) in
-    put_all t.out t.at (lines_end s.args.t1 s.args.ln t.i e (few s)) ∙ t.invariant.3
+    let t = c.loop-i in
+    let e : t.i ≡ c.args.ln = omega (arith, t.invariant.1, c.loop-i-test.false) in
+    put_all t.out t.at (lines_end c.args.lines c.args.ln t.i e (few c.before.before.before)) ∙ t.invariant.3
 
-pub put-lines-spec : {M : Type 1} → statement M
-put-lines-spec =
+pub put_lines_spec : {M : Type 1} → statement M
+put_lines_spec =
     tie.close
     (tie.spec
     invariant-loop

@@ -1,9 +1,6 @@
 -- `wave_print::put_refusal` meets its contract: the letter and the number, the place, the end of the line.
-use mathlib.Core.Path.{refl, ◌∙◌}
-use mathlib.Core.List.{List, ◌++◌}
-use Prim.Native.Nat.{ℕ, ◌+◌, ◌≤◌}
-use native.Mathlib.Omega.{arith}
-use lib.ListN.{length, length-set}
+use Rattle.std.specs.Prelude.{refl, List, ◌++◌, ℕ, ◌+◌, ◌≤◌, length}
+use Rattle.std.proofs.Common.{◌∙◌, arith, length-set}
 use Rattle.decimal.specs.Decimal.{natural}
 use Rattle.wave_print.specs.Print.{named, spaced, lf, refused_text}
 use Rattle.wave_print.proofs.Pieces.{Puts, first-room, rest-room, kept, then}
@@ -20,60 +17,48 @@ asked : (s : tie.Start) → s.args.at + length (number s ++ (place s ++ lf)) ≤
 unfolding refused_text
 asked s = s.requires
 
-first : (c : tie.After-put-named) → let s = c.before.before.before in Puts (number s) s.args.out.now s.args.at c.put-named.result c.put-named.new.1.1.0
-first c = c.put-named.ensures
+first : (c : tie.After-put_named-named) → Puts (number c.before.before.before) c.args.out.now c.args.at c.put_named-named.result c.put_named-named.new.out
+first c = c.put_named-named.ensures
 
-second : (c : tie.After-put-spaced) → let p = c.before.before.before.before in Puts (place p.before.before.before) p.put-named.new.1.1.0 p.put-named.result c.put-spaced.result c.put-spaced.new.1.0
-second c = c.put-spaced.ensures
+second : (c : tie.After-put_spaced-end) → Puts (place c.before.before.before.before.before.before.before) c.put_named-named.new.out c.put_named-named.result c.put_spaced-end.result c.put_spaced-end.new.out
+second c = c.put_spaced-end.ensures
 
-left : (c : tie.After-put-named) → c.put-named.result + length (place c.before.before.before ++ lf) ≤ length c.put-named.new.1.1.0
+left : (c : tie.After-put_named-named) → c.put_named-named.result + length (place c.before.before.before ++ lf) ≤ length c.put_named-named.new.out
 left c =
-    let s = c.before.before.before in
-    rest-room (number s) s.args.out.now s.args.at (first c) (place s ++ lf) (asked s)
+    rest-room (number c.before.before.before) c.args.out.now c.args.at (first c) (place c.before.before.before ++ lf) (asked c.before.before.before)
 
-end : (c : tie.After-put-spaced) → c.put-spaced.result + 1 ≤ length c.put-spaced.new.1.0
+end : (c : tie.After-put_spaced-end) → c.put_spaced-end.result + 1 ≤ length c.put_spaced-end.new.out
 end c =
-    let p = c.before.before.before.before in
-    rest-room (place p.before.before.before) p.put-named.new.1.1.0 p.put-named.result (second c) lf (left p)
+    rest-room (place c.before.before.before.before.before.before.before) c.put_named-named.new.out c.put_named-named.result (second c) lf (left c.before.before.before.before)
 
-put-named-requires : tie.Need-put-named-requires
-put-named-requires c κs = let s = c.before.before in first-room (number s) (place s ++ lf) s.args.at (asked s)
+put-named-requires : tie.Need-put_named-named-requires
+put-named-requires c κs = first-room (number c.before.before) (place c.before.before ++ lf) c.args.at (asked c.before.before)
 
-put-spaced-requires : tie.Need-put-spaced-requires
+put-spaced-requires : tie.Need-put_spaced-end-requires
 put-spaced-requires c κs =
-    let p = c.before.before.before in
-    first-room (place p.before.before.before) lf p.put-named.result (left p)
+    first-room (place c.before.before.before.before.before.before) lf c.put_named-named.result (left c.before.before.before)
 
-slice-write-out : tie.Need-slice-write-out
+slice-write-out : tie.Need-bounds-out-end
 slice-write-out c = omega (arith, end c.before.before)
 
-add-result : tie.Need-overflow-add-result
+add-result : tie.Need-overflow_add-result
 add-result c =
-    let q = c.before.before in
-    let p = q.before.before.before.before in
-    let s = p.before.before.before in
-    omega (arith, end q, kept (place s) p.put-named.new.1.1.0 p.put-named.result (second q), kept (number s) s.args.out.now s.args.at (first p), s.well-formed)
+    omega (arith, end c.before.before, kept (place c.before.before.before.before.before.before.before.before.before) c.put_named-named.new.out c.put_named-named.result (second c.before.before), kept (number c.before.before.before.before.before.before.before.before.before) c.args.out.now c.args.at (first c.before.before.before.before.before.before), c.well_formed)
 
-same_length : tie.Need-same-length
+same_length : tie.Need-shape_of-out
 same_length c =
-    let q = c.before.before in
-    let p = q.before.before.before.before in
-    let s = p.before.before.before in
-    length-set q.put-spaced.new.1.0 q.put-spaced.result 10
-    ∙ kept (place s) p.put-named.new.1.1.0 p.put-named.result (second q)
-    ∙ kept (number s) s.args.out.now s.args.at (first p)
+    length-set c.put_spaced-end.new.out c.put_spaced-end.result 10
+    ∙ kept (place c.before.before.before.before.before.before.before.before.before) c.put_named-named.new.out c.put_named-named.result (second c.before.before)
+    ∙ kept (number c.before.before.before.before.before.before.before.before.before) c.args.out.now c.args.at (first c.before.before.before.before.before.before)
 
 returns : tie.Need-returns
 unfolding refused_text
 returns c =
-    let q = c.before.before in
-    let p = q.before.before.before.before in
-    let s = p.before.before.before in
-    then (number s) s.args.out.now s.args.at (first p) (place s ++ lf)
-    (then (place s) p.put-named.new.1.1.0 p.put-named.result (second q) lf refl)
+    then (number c.before.before.before.before.before.before.before.before.before) c.args.out.now c.args.at (first c.before.before.before.before.before.before) (place c.before.before.before.before.before.before.before.before.before ++ lf)
+    (then (place c.before.before.before.before.before.before.before.before.before) c.put_named-named.new.out c.put_named-named.result (second c.before.before) lf refl)
 
-pub put-refusal-spec : {M : Type 1} → statement M
-put-refusal-spec =
+pub put_refusal_spec : {M : Type 1} → statement M
+put_refusal_spec =
     tie.close
     (tie.spec
     put-named-requires

@@ -1,13 +1,7 @@
 -- `wave_print::put_row` meets its contract: the letter and the id, how many chutes are held, the bounds, the end of the line.
-use mathlib.Core.Path.{◌≡◌, refl, sym, ap, ◌∙◌}
-use mathlib.Core.List.{List, ◌++◌}
-use Prim.Native.Nat.{ℕ, ◌+◌, ◌≤◌}
-use native.Mathlib.Omega.{arith}
-use borrow.Author.Rules.{rules}
-use mir.Syntax.{w32}
-use mir.Val.{to_z, of_z}
-use lib.IntN.{ℤ}
-use lib.ListN.{length, length-set}
+use Rattle.std.specs.Prelude.{◌≡◌, refl, List, ◌++◌, ℕ, ◌+◌, ◌≤◌, ℤ, length}
+use Rattle.std.proofs.Common.{sym, ap, ◌∙◌, arith, rules, to_z, of_z, length-set}
+use Rattle.std.specs.Int.{w32}
 use Rattle.decimal.specs.Decimal.{natural}
 use Rattle.decimal.specs.Put.{put_of}
 use Rattle.offset.specs.Wide.{read32}
@@ -35,101 +29,77 @@ asked s = s.requires
 ends_read : (s : tie.Start) → bounds_text (values_of (to_z w32 (of_z w32 s.args.d.min)) s.args.d.mask) ≡ ends s
 ends_read s = ap (λ (lo : ℤ). bounds_text (values_of lo s.args.d.mask)) (read32 (search rules))
 
-count-is : (c : tie.After-count) → let s = c.before.before.before.before.before.before in c.count.result ≡ length (set_of s.args.d)
+count-is : (c : tie.After-count) → c.count.result ≡ length (set_of c.args.d)
 count-is c =
-    let s = c.before.before.before.before.before.before in
-    c.count.ensures.0 ∙ sym (size-ones s.args.d.min s.args.d.mask)
+    c.count.ensures.0 ∙ sym (size-ones c.args.d.min c.args.d.mask)
 
 -- ---- what is put, and the room that is left
+first : (c : tie.After-put_named-named) → Puts (id c.before.before.before) c.args.out.now c.args.at c.put_named-named.result c.put_named-named.new.out
+first c = c.put_named-named.ensures
 
-first : (c : tie.After-put-named) → let s = c.before.before.before in Puts (id s) s.args.out.now s.args.at c.put-named.result c.put-named.new.1.1.0
-first c = c.put-named.ensures
-
-first-left : (c : tie.After-put-named) → let s = c.before.before.before in c.put-named.result + length (size s ++ (ends s ++ lf)) ≤ length c.put-named.new.1.1.0
+first-left : (c : tie.After-put_named-named) → c.put_named-named.result + length (size c.before.before.before ++ (ends c.before.before.before ++ lf)) ≤ length c.put_named-named.new.out
 first-left c =
-    let s = c.before.before.before in
-    rest-room (id s) s.args.out.now s.args.at (first c) (size s ++ (ends s ++ lf)) (asked s)
+    rest-room (id c.before.before.before) c.args.out.now c.args.at (first c) (size c.before.before.before ++ (ends c.before.before.before ++ lf)) (asked c.before.before.before)
 
-second : (c : tie.After-put-spaced) → let p = c.before.before.before.before.before in let s = p.before.before.before in Puts (size s) p.put-named.new.1.1.0 p.put-named.result c.put-spaced.result c.put-spaced.new.1.0
+second : (c : tie.After-put_spaced-counted) → Puts (size c.before.before.before.before.before.before.before.before.before) c.put_named-named.new.out c.put_named-named.result c.put_spaced-counted.result c.put_spaced-counted.new.out
 second c =
-    let p = c.before.before.before.before.before in
-    c.put-spaced.ensures ∙ ap (λ (n : ℕ). put_of (spaced (natural n)) p.put-named.new.1.1.0 p.put-named.result) (count-is c.before.before)
+    c.put_spaced-counted.ensures ∙ ap (λ (n : ℕ). put_of (spaced (natural n)) c.put_named-named.new.out c.put_named-named.result) (count-is c.before.before)
 
-second-left : (c : tie.After-put-spaced) → let s = c.before.before.before.before.before.before.before.before in c.put-spaced.result + length (ends s ++ lf) ≤ length c.put-spaced.new.1.0
+second-left : (c : tie.After-put_spaced-counted) → c.put_spaced-counted.result + length (ends c.before.before.before.before.before.before.before.before.before ++ lf) ≤ length c.put_spaced-counted.new.out
 second-left c =
-    let p = c.before.before.before.before.before in
-    let s = p.before.before.before in
-    rest-room (size s) p.put-named.new.1.1.0 p.put-named.result (second c) (ends s ++ lf) (first-left p)
+    rest-room (size c.before.before.before.before.before.before.before.before.before) c.put_named-named.new.out c.put_named-named.result (second c) (ends c.before.before.before.before.before.before.before.before.before ++ lf) (first-left c.before.before.before.before.before.before)
 
-third : (c : tie.After-put-bounds) → let q = c.before.before.before.before.before in let s = q.before.before.before.before.before.before.before.before in Puts (ends s) q.put-spaced.new.1.0 q.put-spaced.result c.put-bounds.result c.put-bounds.new.1.1.0
+third : (c : tie.After-put_bounds-end) → Puts (ends c.before.before.before.before.before.before.before.before.before.before.before.before.before.before.before) c.put_spaced-counted.new.out c.put_spaced-counted.result c.put_bounds-end.result c.put_bounds-end.new.out
 third c =
-    let q = c.before.before.before.before.before in
-    let s = q.before.before.before.before.before.before.before.before in
-    c.put-bounds.ensures ∙ ap (λ (t : List ℕ). put_of t q.put-spaced.new.1.0 q.put-spaced.result) (ends_read s)
+    c.put_bounds-end.ensures ∙ ap (λ (t : List ℕ). put_of t c.put_spaced-counted.new.out c.put_spaced-counted.result) (ends_read c.before.before.before.before.before.before.before.before.before.before.before.before.before.before.before)
 
-third-left : (c : tie.After-put-bounds) → c.put-bounds.result + 1 ≤ length c.put-bounds.new.1.1.0
+third-left : (c : tie.After-put_bounds-end) → c.put_bounds-end.result + 1 ≤ length c.put_bounds-end.new.out
 third-left c =
-    let q = c.before.before.before.before.before in
-    let s = q.before.before.before.before.before.before.before.before in
-    rest-room (ends s) q.put-spaced.new.1.0 q.put-spaced.result (third c) lf (second-left q)
+    rest-room (ends c.before.before.before.before.before.before.before.before.before.before.before.before.before.before.before) c.put_spaced-counted.new.out c.put_spaced-counted.result (third c) lf (second-left c.before.before.before.before.before.before)
 
-all-kept : (c : tie.After-put-bounds) → let s = c.before.before.before.before.before.before.before.before.before.before.before.before.before in length c.put-bounds.new.1.1.0 ≡ length s.args.out.now
+all-kept : (c : tie.After-put_bounds-end) → length c.put_bounds-end.new.out ≡ length c.args.out.now
 all-kept c =
-    let q = c.before.before.before.before.before in
-    let p = q.before.before.before.before.before in
-    let s = p.before.before.before in
-    kept (ends s) q.put-spaced.new.1.0 q.put-spaced.result (third c)
-    ∙ kept (size s) p.put-named.new.1.1.0 p.put-named.result (second q)
-    ∙ kept (id s) s.args.out.now s.args.at (first p)
+    kept (ends c.before.before.before.before.before.before.before.before.before.before.before.before.before.before.before) c.put_spaced-counted.new.out c.put_spaced-counted.result (third c)
+    ∙ kept (size c.before.before.before.before.before.before.before.before.before.before.before.before.before.before.before) c.put_named-named.new.out c.put_named-named.result (second c.before.before.before.before.before.before)
+    ∙ kept (id c.before.before.before.before.before.before.before.before.before.before.before.before.before.before.before) c.args.out.now c.args.at (first c.before.before.before.before.before.before.before.before.before.before.before.before)
 
 -- ---- the needs
-
-put-named-requires : tie.Need-put-named-requires
-put-named-requires c κs = let s = c.before.before in first-room (id s) (size s ++ (ends s ++ lf)) s.args.at (asked s)
+put-named-requires : tie.Need-put_named-named-requires
+put-named-requires c κs = first-room (id c.before.before) (size c.before.before ++ (ends c.before.before ++ lf)) c.args.at (asked c.before.before)
 
 count-requires : tie.Need-count-requires
 count-requires c κs = search rules
 
-put-spaced-requires : tie.Need-put-spaced-requires
+put-spaced-requires : tie.Need-put_spaced-counted-requires
 put-spaced-requires c κs =
-    let p = c.before.before.before.before in
-    let s = p.before.before.before in
-    let r = first-room (size s) (ends s ++ lf) p.put-named.result (first-left p) in
+    let r = first-room (size c.before.before.before.before.before.before.before.before) (ends c.before.before.before.before.before.before.before.before ++ lf) c.put_named-named.result (first-left c.before.before.before.before.before) in
     omega (arith, r, ap (λ (n : ℕ). length (natural n)) (count-is c.before))
 
-put-bounds-requires : tie.Need-put-bounds-requires
+put-bounds-requires : tie.Need-put_bounds-end-requires
 put-bounds-requires c κs =
-    let q = c.before.before.before.before in
-    let s = q.before.before.before.before.before.before.before.before in
-    let r = first-room (ends s) lf q.put-spaced.result (second-left q) in
-    omega (arith, r, ap length (ends_read s))
+    let r = first-room (ends c.before.before.before.before.before.before.before.before.before.before.before.before.before.before) lf c.put_spaced-counted.result (second-left c.before.before.before.before.before) in
+    omega (arith, r, ap length (ends_read c.before.before.before.before.before.before.before.before.before.before.before.before.before.before))
 
-slice-write-out : tie.Need-slice-write-out
+slice-write-out : tie.Need-bounds-out-end
 slice-write-out c = omega (arith, third-left c.before.before)
 
-add-result : tie.Need-overflow-add-result
+add-result : tie.Need-overflow_add-result
 add-result c =
-    let t = c.before.before in
-    omega (arith, third-left t, all-kept t, t.before.before.before.before.before.before.before.before.before.before.before.before.before.well-formed)
+    omega (arith, third-left c.before.before, all-kept c.before.before, c.well_formed)
 
-same_length : tie.Need-same-length
+same_length : tie.Need-shape_of-out
 same_length c =
-    let t = c.before.before in
-    length-set t.put-bounds.new.1.1.0 t.put-bounds.result 10 ∙ all-kept t
+    length-set c.put_bounds-end.new.out c.put_bounds-end.result 10 ∙ all-kept c.before.before
 
 returns : tie.Need-returns
 unfolding row_text
 returns c =
-    let t = c.before.before in
-    let q = t.before.before.before.before.before in
-    let p = q.before.before.before.before.before in
-    let s = p.before.before.before in
-    then (id s) s.args.out.now s.args.at (first p) (size s ++ (ends s ++ lf))
-    (then (size s) p.put-named.new.1.1.0 p.put-named.result (second q) (ends s ++ lf)
-    (then (ends s) q.put-spaced.new.1.0 q.put-spaced.result (third t) lf refl))
+    then (id c.before.before.before.before.before.before.before.before.before.before.before.before.before.before.before.before.before) c.args.out.now c.args.at (first c.before.before.before.before.before.before.before.before.before.before.before.before.before.before) (size c.before.before.before.before.before.before.before.before.before.before.before.before.before.before.before.before.before ++ (ends c.before.before.before.before.before.before.before.before.before.before.before.before.before.before.before.before.before ++ lf))
+    (then (size c.before.before.before.before.before.before.before.before.before.before.before.before.before.before.before.before.before) c.put_named-named.new.out c.put_named-named.result (second c.before.before.before.before.before.before.before.before) (ends c.before.before.before.before.before.before.before.before.before.before.before.before.before.before.before.before.before ++ lf)
+    (then (ends c.before.before.before.before.before.before.before.before.before.before.before.before.before.before.before.before.before) c.put_spaced-counted.new.out c.put_spaced-counted.result (third c.before.before) lf refl))
 
-pub put-row-spec : {M : Type 1} → statement M
-put-row-spec =
+pub put_row_spec : {M : Type 1} → statement M
+put_row_spec =
     tie.close
     (tie.spec
     put-named-requires

@@ -1,10 +1,6 @@
 -- `wave_print::put_rows` meets its contract: putting what is left where the text ends so far gives what putting all at the start gives.
-use mathlib.Core.Path.{◌≡◌, refl, sym, ap, ◌∙◌, subst}
-use mathlib.Core.List.{List, ◌++◌}
-use Prim.Native.Nat.{ℕ, ◌+◌, ◌-◌, ◌≤◌}
-use native.Mathlib.Omega.{arith}
-use borrow.Author.Rules.{rules}
-use lib.ListN.{length}
+use Rattle.std.specs.Prelude.{◌≡◌, refl, List, ◌++◌, ℕ, ◌+◌, ◌-◌, ◌≤◌, length}
+use Rattle.std.proofs.Common.{sym, ap, ◌∙◌, subst, arith, rules}
 use Rattle.decimal.specs.Put.{put_of}
 use Rattle.board.specs.View.{held_at}
 use Rattle.board.specs.Rows.{id_at}
@@ -14,75 +10,71 @@ use Rattle.wave_print.proofs.Runs.{run_on, rows_left, rows_start, rows_next, row
 use Rattle.wave_print.proofs.put_rows.Statement.{statement}
 use Rattle.wave_print.proofs.put_rows.Tie as tie
 
-abbrev invariant-loop : tie.invariant-loop
+abbrev invariant-loop : tie.invariant-loop-i
 invariant-loop count out₀ rows at₀ i₀ out at i =
     (length out ≡ length out₀) × (i ≤ count) × (at + length (rows_left rows count i) ≤ length out)
     × (put_of (rows_left rows count i) out at ≡ put_of (rows_left rows count 0) out₀ 0)
 
-abbrev decreases-loop : tie.decreases-loop
+abbrev decreases-loop : tie.decreases-loop-i
 decreases-loop count out₀ rows at₀ i₀ out at i = count - i
 
 -- the room for the next line and those after it
-asked : (c : tie.In-loop invariant-loop decreases-loop) → let t = c.before.loop in let a = c.before.before.before.args in
-    t.at + length (row_text (id_at a.t1 t.i) (held_at a.t1 t.i) ++ rows_left a.t1 a.count (t.i + 1)) ≤ length t.out
+asked : (c : tie.In-loop-i invariant-loop decreases-loop) → let t = c.loop-i in let a = c.args in
+    t.at + length (row_text (id_at a.rows t.i) (held_at a.rows t.i) ++ rows_left a.rows a.count (t.i + 1)) ≤ length t.out
 asked c =
-    let t = c.before.loop in
-    let a = c.before.before.before.args in
-    subst (λ (x : List ℕ). t.at + length x ≤ length t.out) (rows_next a.t1 a.count t.i c.loop-test.true) t.invariant.2
+    let t = c.loop-i in
+    let a = c.args in
+    subst (λ (x : List ℕ). t.at + length x ≤ length t.out) (rows_next a.rows a.count t.i c.loop-i-test.true) t.invariant.2
 
-loop-holds : tie.Need-loop-init invariant-loop decreases-loop
+loop-holds : tie.Need-loop-i-init invariant-loop decreases-loop
 loop-holds c =
-    let s = c.before in
-    (refl, omega arith, omega (arith, s.requires.1, ap length (rows_start s.args.t1 s.args.count)), refl)
+    (refl, omega arith, omega (arith, c.requires.1, ap length (rows_start c.args.rows c.args.count)), refl)
 
-mul-row : tie.Need-overflow-mul-row invariant-loop decreases-loop
+mul-row : tie.Need-offset_bounds-rows-i invariant-loop decreases-loop
 mul-row c = search rules
 
-array-copy-out-row : tie.Need-array-copy-out-row invariant-loop decreases-loop
+array-copy-out-row : tie.Need-bounds-rows-i invariant-loop decreases-loop
 array-copy-out-row c = search rules
 
-put-row-requires : tie.Need-put-row-requires invariant-loop decreases-loop
+put-row-requires : tie.Need-put_row-at-requires invariant-loop decreases-loop
 put-row-requires c κs =
-    let l = c.before.before in
-    let t = l.before.loop in
-    let a = l.before.before.before.args in
-    first-room (row_text (id_at a.t1 t.i) (held_at a.t1 t.i)) (rows_left a.t1 a.count (t.i + 1)) t.at (asked l)
+    let t = c.loop-i in
+    let a = c.args in
+    first-room (row_text (id_at a.rows t.i) (held_at a.rows t.i)) (rows_left a.rows a.count (t.i + 1)) t.at (asked c.before.before.before)
 
-add-i : tie.Need-overflow-add-i invariant-loop decreases-loop
+add-i : tie.Need-overflow_add-i invariant-loop decreases-loop
 add-i c = search rules
 
-loop-less : tie.Need-loop-smaller invariant-loop decreases-loop
+loop-less : tie.Need-loop-i-smaller invariant-loop decreases-loop
 loop-less c = omega arith
 
-loop-again : tie.Need-loop-preserved invariant-loop decreases-loop
+loop-again : tie.Need-loop-i-preserved invariant-loop decreases-loop
 loop-again c =
-    let p = c.before.before in
-    let l = p.before.before.before in
-    let t = l.before.loop in
-    let a = l.before.before.before.args in
-    let row = row_text (id_at a.t1 t.i) (held_at a.t1 t.i) in
-    let rest = rows_left a.t1 a.count (t.i + 1) in (
-      p.put-row.auto.1.1.0 ∙ t.invariant.0,
-      omega (arith, l.loop-test.true),
-      rest-room row t.out t.at p.put-row.ensures rest (asked l),
-      run_on row rest t.out t.at p.put-row.ensures
-          ∙ ap (λ (x : List ℕ). put_of x t.out t.at) (sym (rows_next a.t1 a.count t.i l.loop-test.true))
+    let t = c.loop-i in
+    let a = c.args in
+    let row = row_text (id_at a.rows t.i) (held_at a.rows t.i) in
+    let rest = rows_left a.rows a.count (t.i + 1) in (
+      c.put_row-at.auto.out ∙ t.invariant.0,
+      omega (arith, c.loop-i-test.true),
+      rest-room row t.out t.at c.put_row-at.ensures rest (asked c.before.before.before.before.before.before),
+      run_on row rest t.out t.at c.put_row-at.ensures
+          ∙ ap (λ (x : List ℕ). put_of x t.out t.at) (sym (rows_next a.rows a.count t.i c.loop-i-test.true))
           ∙ t.invariant.3,
     )
 
-same_length : tie.Need-same-length invariant-loop decreases-loop
-same_length c = c.before.loop.invariant.0
+same_length : tie.Need-shape_of-out invariant-loop decreases-loop
+same_length c = c.loop-i.invariant.0
 
 returns : tie.Need-returns invariant-loop decreases-loop
 returns c =
-    let t = c.before.loop in
-    let a = c.before.before.before.args in
-    put_all t.out t.at (rows_end a.t1 a.count t.i c.loop-test.false)
+    let t = c.loop-i in
+    let a = c.args in
+    put_all t.out t.at (rows_end a.rows a.count t.i c.loop-i-test.false)
     ∙ t.invariant.3
-    ∙ ap (λ (x : List ℕ). put_of x a.out.now 0) (rows_start a.t1 a.count)
+    ∙ ap (λ (x : List ℕ). put_of x a.out.now 0) (rows_start a.rows a.count)
 
-pub put-rows-spec : {M : Type 1} → statement M
-put-rows-spec =
+pub put_rows_spec : {M : Type 1} → statement M
+put_rows_spec =
     tie.close
     (tie.spec
     invariant-loop
