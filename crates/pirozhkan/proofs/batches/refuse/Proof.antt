@@ -1,46 +1,38 @@
 -- `pirozhkan::batches::refuse` meets its contract: the state is refused before the batch. Assumes nothing.
-use mathlib.Core.Path.{◌≡◌, sym, ap, ◌∙◌}
-use Rattle.rules.specs.Board as rules
+use Rattle.std.specs.Prelude.{◌≡◌}
+use Rattle.std.proofs.Common.{sym, ap, ◌∙◌, rules}
 use Rattle.reply.specs.Through.{judge_of}
 use Rattle.reply.proofs.ThroughLaws.{answered-why, answered-passed, passed}
 use Rattle.pirozhkan.specs.Batches.{refusing}
 use Rattle.pirozhkan.proofs.Batching.{refusing-guarded, refused-broken, refused-well}
-use borrow.Author.Rules.{rules}
+use Rattle.rules.specs.Board as rules
 use Rattle.pirozhkan.proofs.batches.refuse.Statement.{statement}
 use Rattle.pirozhkan.proofs.batches.refuse.Tie as tie
 
 -- words that pass the first test
-zero : (c : tie.Else1) → judge_of c.before.before.before.args.ws.now ≡ 0
-zero c = sym c.before.judge.ensures.0 ∙ c.if1.false
+zero : (c : tie.Else-why-ne0) → judge_of c.args.ws.now ≡ 0
+zero c = sym c.judge-why.ensures.0 ∙ c.if-why-ne0.false
 
-returns : tie.Need-returns
-returns c = let a = c.before.before.before.args in answered-why (refusing a.r) a.ws.now c.before.judge.result c.before.judge.ensures.0 c.if1.true
+returns : tie.Need-returns-then-why-ne0
+returns c = let a = c.args in answered-why (refusing a.r) a.ws.now c.judge-why.result c.judge-why.ensures.0 c.if-why-ne0.true
 
-read-requires : tie.Need-read-requires
-read-requires c κs = passed c.before.before.before.args.ws.now (zero c)
+read-requires : tie.Need-read-b-requires
+read-requires c κs = passed c.args.ws.now (zero c)
 
-returns-2 : tie.Need-returns-2
+returns-2 : tie.Need-returns-in-Refused
 returns-2 c =
-    let g = c.before.before.well.given in
-    let d = c.before.before.before.before in
-    let r = d.before in
-    let z = r.before in
-    let a = z.before.before.before.args in
+    let a = c.args in
     c.refusal.ensures
-    ∙ answered-passed (refusing a.r) a.ws.now (refusing-guarded a.r) (zero z) (rules.denied g.0.0) (refused-broken r.read.result a.r g.0.0 (sym g.1 ∙ d.domains-changed.ensures) ∙ ap (refusing a.r) r.read.ensures)
+    ∙ answered-passed (refusing a.r) a.ws.now (refusing-guarded a.r) (zero c.before.before.before.before) (rules.denied c.in-Refused.x) (refused-broken c.read-b.result a.r c.in-Refused.x (sym c.in-Refused.is ∙ c.domains_changed-well.ensures) ∙ ap (refusing a.r) c.read-b.ensures)
 
-returns-3 : tie.Need-returns-3
+returns-3 : tie.Need-returns-in-Is
 returns-3 c =
-    let g = c.before.enum_told.given in
-    let d = c.before.before.before in
-    let r = d.before in
-    let z = r.before in
-    let a = z.before.before.before.args in
-    c.refusal2.ensures
-    ∙ answered-passed (refusing a.r) a.ws.now (refusing-guarded a.r) (zero z) (rules.denied a.r) (refused-well r.read.result a.r g.0.0 (sym g.1 ∙ d.domains-changed.ensures) ∙ ap (refusing a.r) r.read.ensures)
+    let a = c.args in
+    c.refusal-in-Is.ensures
+    ∙ answered-passed (refusing a.r) a.ws.now (refusing-guarded a.r) (zero c.before.before.before.before) (rules.denied a.r) (refused-well c.read-b.result a.r c.in-Is._ (sym c.in-Is.is ∙ c.domains_changed-well.ensures) ∙ ap (refusing a.r) c.read-b.ensures)
 
-pub refuse-spec : {M : Type 1} → statement M
-refuse-spec =
+pub refuse_spec : {M : Type 1} → statement M
+refuse_spec =
     tie.close
     (tie.spec
     (λ c κs. search rules)

@@ -1,38 +1,34 @@
 -- `pirozhkan::lists::pirozhkan_propagate_alldiff` meets its contract: it is the by-value call between reading and writing. Assumes nothing.
-use mathlib.Core.Path.{◌≡◌, sym, ap, ◌∙◌}
+use Rattle.std.specs.Prelude.{◌≡◌}
+use Rattle.std.proofs.Common.{sym, ap, ◌∙◌, rules}
 use Rattle.reply.specs.Through.{left, spread, judge_of}
 use Rattle.reply.proofs.ThroughLaws.{through-why, through-passed, passed}
 use Rattle.pirozhkan.specs.Calls.{spreading}
 use Rattle.pirozhkan.proofs.Guards.{spreading-guarded}
-use borrow.Author.Rules.{rules}
 use Rattle.pirozhkan.proofs.lists.pirozhkan_propagate_alldiff.Statement.{statement}
 use Rattle.pirozhkan.proofs.lists.pirozhkan_propagate_alldiff.Tie as tie
 
 -- words that pass the first test
-zero : (c : tie.Else1) → judge_of c.before.before.before.before.before.args.ws.now ≡ 0
-zero c = sym c.before.judge.ensures.0 ∙ c.if1.false
+zero : (c : tie.Else-why-ne0) → judge_of c.args.ws.now ≡ 0
+zero c = sym c.judge-why.ensures.0 ∙ c.if-why-ne0.false
 
-returns : tie.Need-returns
-returns c = let a = c.before.before.before.before.before.args in through-why (spreading a.list.now) a.ws.now c.before.judge.result c.before.judge.ensures.0 c.if1.true
+returns : tie.Need-returns-then-why-ne0
+returns c = let a = c.args in through-why (spreading a.list.now) a.ws.now c.judge-why.result c.judge-why.ensures.0 c.if-why-ne0.true
 
-read-requires : tie.Need-read-requires
-read-requires c κs = passed c.before.before.before.before.before.before.args.ws.now (zero c.before)
+read-requires : tie.Need-read-b-requires
+read-requires c κs = passed c.args.ws.now (zero c)
 
 write-requires : tie.Need-write-requires
-write-requires c κs = (passed c.before.before.before.before.before.before.before.before.before.before.args.ws.now (zero c.before.before.before.before.before)).0
+write-requires c κs = (passed c.args.ws.now (zero c.before.before.before.before)).0
 
-returns-2 : tie.Need-returns-2
+returns-2 : tie.Need-returns
 returns-2 c =
-    let w = c.before.before.before in
-    let d = w.before.before.before in
-    let r = d.before in
-    let z = r.before.before in
-    let a = z.before.before.before.before.before.args in
-    (λ t. left (c.pair.ensures t) (w.write.ensures t))
-    ∙ through-passed (spreading a.list.now) a.ws.now (spreading-guarded a.list.now) z.before.judge.ensures.1 (zero z) (spread d.propagate-alldiff.result) (ap spread d.propagate-alldiff.ensures ∙ ap (spreading a.list.now) r.read.ensures)
+    let a = c.args in
+    (λ t. left (c.pair.ensures t) (c.write.ensures t))
+    ∙ through-passed (spreading a.list.now) a.ws.now (spreading-guarded a.list.now) c.judge-why.ensures.1 (zero c.before.before.before.before.before.before.before.before) (spread c.propagate_alldiff-did.result) (ap spread c.propagate_alldiff-did.ensures ∙ ap (spreading a.list.now) c.read-b.ensures)
 
-pub pirozhkan-propagate-alldiff-spec : {M : Type 1} → statement M
-pirozhkan-propagate-alldiff-spec =
+pub pirozhkan_propagate_alldiff_spec : {M : Type 1} → statement M
+pirozhkan_propagate_alldiff_spec =
     tie.close
     (tie.spec
     (λ c κs. search rules)

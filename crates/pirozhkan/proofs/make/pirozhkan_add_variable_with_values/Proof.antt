@@ -1,37 +1,34 @@
 -- `pirozhkan::make::pirozhkan_add_variable_with_values` meets its contract: it is the by-value call between reading and writing. Assumes nothing.
-use mathlib.Core.Path.{◌≡◌, sym, ap, ◌∙◌}
+use Rattle.std.specs.Prelude.{◌≡◌}
+use Rattle.std.proofs.Common.{sym, ap, ◌∙◌, rules}
 use Rattle.reply.specs.Through.{settled, judge_of}
 use Rattle.reply.proofs.ThroughLaws.{through-why, through-passed, passed}
 use Rattle.pirozhkan.specs.Calls.{listing}
 use Rattle.pirozhkan.proofs.Guards.{listing-guarded}
-use borrow.Author.Rules.{rules}
 use Rattle.pirozhkan.proofs.make.pirozhkan_add_variable_with_values.Statement.{statement}
 use Rattle.pirozhkan.proofs.make.pirozhkan_add_variable_with_values.Tie as tie
 
 -- words that pass the first test
-zero : (c : tie.Else1) → judge_of c.before.before.before.before.args.ws.now ≡ 0
-zero c = sym c.before.judge.ensures.0 ∙ c.if1.false
+zero : (c : tie.Else-why-ne0) → judge_of c.args.ws.now ≡ 0
+zero c = sym c.judge-why.ensures.0 ∙ c.if-why-ne0.false
 
-returns : tie.Need-returns
-returns c = let a = c.before.before.before.before.args in through-why (listing a.id a.values.now) a.ws.now c.before.judge.result c.before.judge.ensures.0 c.if1.true
+returns : tie.Need-returns-then-why-ne0
+returns c = let a = c.args in through-why (listing a.id a.values.now) a.ws.now c.judge-why.result c.judge-why.ensures.0 c.if-why-ne0.true
 
-read-requires : tie.Need-read-requires
-read-requires c κs = passed c.before.before.before.before.before.args.ws.now (zero c.before)
+read-requires : tie.Need-read-b-requires
+read-requires c κs = passed c.args.ws.now (zero c)
 
 settle-requires : tie.Need-settle-requires
-settle-requires c κs = (passed c.before.before.before.before.before.before.before.before.args.ws.now (zero c.before.before.before.before)).0
+settle-requires c κs = (passed c.args.ws.now (zero c.before.before.before)).0
 
-returns-2 : tie.Need-returns-2
+returns-2 : tie.Need-returns
 returns-2 c =
-    let s = c.before.before in
-    let r = s.before.before.before in
-    let z = r.before.before in
-    let a = z.before.before.before.before.args in
-    s.settle.ensures
-    ∙ through-passed (listing a.id a.values.now) a.ws.now (listing-guarded a.id a.values.now) z.before.judge.ensures.1 (zero z) (settled s.before.add-variable-with-values.result) (ap settled s.before.add-variable-with-values.ensures ∙ ap (listing a.id a.values.now) r.read.ensures)
+    let a = c.args in
+    c.settle.ensures
+    ∙ through-passed (listing a.id a.values.now) a.ws.now (listing-guarded a.id a.values.now) c.judge-why.ensures.1 (zero c.before.before.before.before.before.before) (settled c.add_variable_with_values.result) (ap settled c.add_variable_with_values.ensures ∙ ap (listing a.id a.values.now) c.read-b.ensures)
 
-pub pirozhkan-add-variable-with-values-spec : {M : Type 1} → statement M
-pirozhkan-add-variable-with-values-spec =
+pub pirozhkan_add_variable_with_values_spec : {M : Type 1} → statement M
+pirozhkan_add_variable_with_values_spec =
     tie.close
     (tie.spec
     (λ c κs. search rules)

@@ -1,35 +1,32 @@
 -- `pirozhkan::questions::pirozhkan_domains_changed` meets its contract: it is the by-value call after reading. Assumes nothing.
-use mathlib.Core.Path.{◌≡◌, sym, ap, ◌∙◌}
+use Rattle.std.specs.Prelude.{◌≡◌}
+use Rattle.std.proofs.Common.{sym, ap, ◌∙◌, rules}
 use Rattle.reply.specs.Through.{judge_of}
 use Rattle.reply.proofs.ThroughLaws.{answered-why, answered-passed, passed}
 use Rattle.board.specs.Obeys.{told_of}
 use Rattle.pirozhkan.specs.Calls.{whether_changed}
 use Rattle.pirozhkan.proofs.Guards.{changed-refuses}
-use borrow.Author.Rules.{rules}
 use Rattle.pirozhkan.proofs.questions.pirozhkan_domains_changed.Statement.{statement}
 use Rattle.pirozhkan.proofs.questions.pirozhkan_domains_changed.Tie as tie
 
 -- words that pass the first test
-zero : (c : tie.Else1) → judge_of c.before.before.before.args.ws.now ≡ 0
-zero c = sym c.before.judge.ensures.0 ∙ c.if1.false
+zero : (c : tie.Else-why-ne0) → judge_of c.args.ws.now ≡ 0
+zero c = sym c.judge-why.ensures.0 ∙ c.if-why-ne0.false
 
-returns : tie.Need-returns
-returns c = let a = c.before.before.before.args in answered-why whether_changed a.ws.now c.before.judge.result c.before.judge.ensures.0 c.if1.true
+returns : tie.Need-returns-then-why-ne0
+returns c = let a = c.args in answered-why whether_changed a.ws.now c.judge-why.result c.judge-why.ensures.0 c.if-why-ne0.true
 
-read-requires : tie.Need-read-requires
-read-requires c κs = passed c.before.before.before.args.ws.now (zero c)
+read-requires : tie.Need-read-b-requires
+read-requires c κs = passed c.args.ws.now (zero c)
 
-returns-2 : tie.Need-returns-2
+returns-2 : tie.Need-returns
 returns-2 c =
-    let d = c.before in
-    let r = d.before in
-    let z = r.before in
-    let a = z.before.before.before.args in
+    let a = c.args in
     c.told.ensures
-    ∙ answered-passed whether_changed a.ws.now changed-refuses (zero z) (told_of d.domains-changed.result) (ap told_of d.domains-changed.ensures ∙ ap whether_changed r.read.ensures)
+    ∙ answered-passed whether_changed a.ws.now changed-refuses (zero c.before.before.before) (told_of c.domains_changed.result) (ap told_of c.domains_changed.ensures ∙ ap whether_changed c.read-b.ensures)
 
-pub pirozhkan-domains-changed-spec : {M : Type 1} → statement M
-pirozhkan-domains-changed-spec =
+pub pirozhkan_domains_changed_spec : {M : Type 1} → statement M
+pirozhkan_domains_changed_spec =
     tie.close
     (tie.spec
     (λ c κs. search rules)

@@ -1,35 +1,32 @@
 -- `pirozhkan::questions::pirozhkan_is_inconsistent` meets its contract: it is the by-value call after reading. Assumes nothing.
-use mathlib.Core.Path.{◌≡◌, sym, ap, ◌∙◌}
+use Rattle.std.specs.Prelude.{◌≡◌}
+use Rattle.std.proofs.Common.{sym, ap, ◌∙◌, rules}
 use Rattle.reply.specs.Through.{judge_of}
 use Rattle.reply.proofs.ThroughLaws.{answered-why, answered-passed, passed}
 use Rattle.board.specs.Obeys.{told_of}
 use Rattle.pirozhkan.specs.Calls.{whether_inconsistent}
 use Rattle.pirozhkan.proofs.Guards.{inconsistent-refuses}
-use borrow.Author.Rules.{rules}
 use Rattle.pirozhkan.proofs.questions.pirozhkan_is_inconsistent.Statement.{statement}
 use Rattle.pirozhkan.proofs.questions.pirozhkan_is_inconsistent.Tie as tie
 
 -- words that pass the first test
-zero : (c : tie.Else1) → judge_of c.before.before.before.args.ws.now ≡ 0
-zero c = sym c.before.judge.ensures.0 ∙ c.if1.false
+zero : (c : tie.Else-why-ne0) → judge_of c.args.ws.now ≡ 0
+zero c = sym c.judge-why.ensures.0 ∙ c.if-why-ne0.false
 
-returns : tie.Need-returns
-returns c = let a = c.before.before.before.args in answered-why (whether_inconsistent a.id) a.ws.now c.before.judge.result c.before.judge.ensures.0 c.if1.true
+returns : tie.Need-returns-then-why-ne0
+returns c = let a = c.args in answered-why (whether_inconsistent a.id) a.ws.now c.judge-why.result c.judge-why.ensures.0 c.if-why-ne0.true
 
-read-requires : tie.Need-read-requires
-read-requires c κs = passed c.before.before.before.args.ws.now (zero c)
+read-requires : tie.Need-read-b-requires
+read-requires c κs = passed c.args.ws.now (zero c)
 
-returns-2 : tie.Need-returns-2
+returns-2 : tie.Need-returns
 returns-2 c =
-    let d = c.before in
-    let r = d.before in
-    let z = r.before in
-    let a = z.before.before.before.args in
+    let a = c.args in
     c.told.ensures
-    ∙ answered-passed (whether_inconsistent a.id) a.ws.now (inconsistent-refuses a.id) (zero z) (told_of d.is-inconsistent.result) (ap told_of d.is-inconsistent.ensures ∙ ap (whether_inconsistent a.id) r.read.ensures)
+    ∙ answered-passed (whether_inconsistent a.id) a.ws.now (inconsistent-refuses a.id) (zero c.before.before.before) (told_of c.is_inconsistent.result) (ap told_of c.is_inconsistent.ensures ∙ ap (whether_inconsistent a.id) c.read-b.ensures)
 
-pub pirozhkan-is-inconsistent-spec : {M : Type 1} → statement M
-pirozhkan-is-inconsistent-spec =
+pub pirozhkan_is_inconsistent_spec : {M : Type 1} → statement M
+pirozhkan_is_inconsistent_spec =
     tie.close
     (tie.spec
     (λ c κs. search rules)

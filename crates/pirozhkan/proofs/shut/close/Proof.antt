@@ -1,37 +1,33 @@
 -- `pirozhkan::shut::close` meets its contract: it is the by-value call between reading and writing. Assumes nothing.
-use mathlib.Core.Path.{◌≡◌, sym, ap, ◌∙◌}
+use Rattle.std.specs.Prelude.{◌≡◌}
+use Rattle.std.proofs.Common.{sym, ap, ◌∙◌, rules}
 use Rattle.reply.specs.Through.{left, closed, judge_of}
 use Rattle.reply.proofs.ThroughLaws.{through-why, through-passed, passed}
 use Rattle.offset.specs.Wide.{read32}
 use Rattle.closing.specs.Kinds.{kind_of}
 use Rattle.pirozhkan.specs.Calls.{closing}
 use Rattle.pirozhkan.proofs.Guards.{closing-guarded}
-use borrow.Author.Rules.{rules}
 use Rattle.pirozhkan.proofs.shut.close.Statement.{statement}
 use Rattle.pirozhkan.proofs.shut.close.Tie as tie
 
 -- words that pass the first test
-zero : (c : tie.Else1) → judge_of c.before.before.before.before.args.ws.now ≡ 0
-zero c = sym c.before.judge.ensures.0 ∙ c.if1.false
+zero : (c : tie.Else-why-ne0) → judge_of c.args.ws.now ≡ 0
+zero c = sym c.judge-why.ensures.0 ∙ c.if-why-ne0.false
 
-returns : tie.Need-returns
-returns c = let a = c.before.before.before.before.args in through-why (closing (kind_of a.kind) a.id a.value) a.ws.now c.before.judge.result c.before.judge.ensures.0 c.if1.true
+returns : tie.Need-returns-then-why-ne0
+returns c = let a = c.args in through-why (closing (kind_of a.kind) a.id a.value) a.ws.now c.judge-why.result c.judge-why.ensures.0 c.if-why-ne0.true
 
-read-requires : tie.Need-read-requires
-read-requires c κs = passed c.before.before.before.before.before.args.ws.now (zero c.before)
+read-requires : tie.Need-read-b-requires
+read-requires c κs = passed c.args.ws.now (zero c)
 
 write-requires : tie.Need-write-requires
-write-requires c κs = (passed c.before.before.before.before.before.before.before.before.before.args.ws.now (zero c.before.before.before.before.before)).0
+write-requires c κs = (passed c.args.ws.now (zero c.before.before.before.before)).0
 
-returns-2 : tie.Need-returns-2
+returns-2 : tie.Need-returns
 returns-2 c =
-    let w = c.before.before.before in
-    let d = w.before.before.before in
-    let r = d.before in
-    let z = r.before.before in
-    let a = z.before.before.before.before.args in
-    (λ t. left (c.told.ensures t) (w.write.ensures t))
-    ∙ through-passed (closing (kind_of a.kind) a.id a.value) a.ws.now (closing-guarded (kind_of a.kind) a.id a.value) z.before.judge.ensures.1 (zero z) (closed d.close.result) (ap closed d.close.ensures ∙ λ t. closing (kind_of a.kind) a.id (read32 z.before.before.before.before.ranges.value t) (r.read.ensures t))
+    let a = c.args in
+    (λ t. left (c.told.ensures t) (c.write.ensures t))
+    ∙ through-passed (closing (kind_of a.kind) a.id a.value) a.ws.now (closing-guarded (kind_of a.kind) a.id a.value) c.judge-why.ensures.1 (zero c.before.before.before.before.before.before.before.before) (closed c.close-did.result) (ap closed c.close-did.ensures ∙ λ t. closing (kind_of a.kind) a.id (read32 c.ranges.value t) (c.read-b.ensures t))
 
 pub close_spec : {M : Type 1} → statement M
 close_spec =

@@ -1,37 +1,34 @@
 -- `pirozhkan::trials::pirozhkan_restore` meets its contract: it is the by-value call between reading and writing. Assumes nothing.
-use mathlib.Core.Path.{◌≡◌, sym, ap, ◌∙◌}
+use Rattle.std.specs.Prelude.{◌≡◌}
+use Rattle.std.proofs.Common.{sym, ap, ◌∙◌, rules}
 use Rattle.reply.specs.Through.{settled, judge_of}
 use Rattle.reply.proofs.ThroughLaws.{through-why, through-passed, passed}
 use Rattle.pirozhkan.specs.Calls.{restoring}
 use Rattle.pirozhkan.proofs.Guards.{restoring-guarded}
-use borrow.Author.Rules.{rules}
 use Rattle.pirozhkan.proofs.trials.pirozhkan_restore.Statement.{statement}
 use Rattle.pirozhkan.proofs.trials.pirozhkan_restore.Tie as tie
 
 -- words that pass the first test
-zero : (c : tie.Else1) → judge_of c.before.before.before.before.args.ws.now ≡ 0
-zero c = sym c.before.judge.ensures.0 ∙ c.if1.false
+zero : (c : tie.Else-why-ne0) → judge_of c.args.ws.now ≡ 0
+zero c = sym c.judge-why.ensures.0 ∙ c.if-why-ne0.false
 
-returns : tie.Need-returns
-returns c = let a = c.before.before.before.before.args in through-why restoring a.ws.now c.before.judge.result c.before.judge.ensures.0 c.if1.true
+returns : tie.Need-returns-then-why-ne0
+returns c = let a = c.args in through-why restoring a.ws.now c.judge-why.result c.judge-why.ensures.0 c.if-why-ne0.true
 
-read-requires : tie.Need-read-requires
-read-requires c κs = passed c.before.before.before.before.before.args.ws.now (zero c.before)
+read-requires : tie.Need-read-b-requires
+read-requires c κs = passed c.args.ws.now (zero c)
 
 settle-requires : tie.Need-settle-requires
-settle-requires c κs = (passed c.before.before.before.before.before.before.before.before.args.ws.now (zero c.before.before.before.before)).0
+settle-requires c κs = (passed c.args.ws.now (zero c.before.before.before)).0
 
-returns-2 : tie.Need-returns-2
+returns-2 : tie.Need-returns
 returns-2 c =
-    let s = c.before.before in
-    let r = s.before.before.before in
-    let z = r.before.before in
-    let a = z.before.before.before.before.args in
-    s.settle.ensures
-    ∙ through-passed restoring a.ws.now restoring-guarded z.before.judge.ensures.1 (zero z) (settled s.before.restore.result) (ap settled s.before.restore.ensures ∙ ap restoring r.read.ensures)
+    let a = c.args in
+    c.settle.ensures
+    ∙ through-passed restoring a.ws.now restoring-guarded c.judge-why.ensures.1 (zero c.before.before.before.before.before.before) (settled c.restore.result) (ap settled c.restore.ensures ∙ ap restoring c.read-b.ensures)
 
-pub pirozhkan-restore-spec : {M : Type 1} → statement M
-pirozhkan-restore-spec =
+pub pirozhkan_restore_spec : {M : Type 1} → statement M
+pirozhkan_restore_spec =
     tie.close
     (tie.spec
     (λ c κs. search rules)
