@@ -1,5 +1,5 @@
--- `board_in_place::remove_value_here` meets its contract: `in_place`'s law at `board_in_place::remove_value`.
-use mathlib.Core.List.{[], ◌∷◌}
+-- `board_in_place::remove_value_here` is an instance of `in_place`'s law `here`, at `board_in_place::remove_value`. Assumes nothing.
+use Rattle.std.specs.Prelude.{refl, [], ◌∷◌}
 use base.Logic.{emp}
 use contract.Monad.{fact_i}
 use Rattle.in_place.proofs.Contracts.{Holds}
@@ -14,11 +14,10 @@ use Rattle.board_in_place.specs.contracts.remove_value_here.Key as call
 use Rattle.board_in_place.proofs.remove_value_here.Statement.{statement}
 use Rattle.board_in_place.proofs.remove_value_here.Code as code
 
-holds : Holds board told both_told (variable ∷ value ∷ []) (close_of remove) (λ M. clauses)
+holds : Holds board told both_told (variable ∷ value ∷ []) (close_of remove) (λ M 𝓤 𝓛. clauses 𝓛)
 holds M 𝓤 𝓛 m run κs a g r ws e = fact_i 𝓤 _ (emp 𝓤) e
 
-pub remove-value-here-spec : {M : Type 1} → statement M
-unfolding code.routine
-remove-value-here-spec 𝓤 𝓛 𝓜 𝓡 =
-    here board told both_told (variable ∷ value ∷ []) callee.name (close_of remove) (λ M. clauses) holds 𝓛 𝓜 𝓡
-    code.env call.name (code.unfolded 𝓤 𝓛.H 𝓜 𝓡) callee.routine code.calls-board-in-place::remove-value (met 𝓤 𝓛 𝓜 𝓡)
+pub remove_value_here_is_here : {M : Type 1} → statement M
+remove_value_here_is_here 𝓤 𝓛 𝓜 𝓡 wired =
+    here board told both_told (variable ∷ value ∷ []) callee.name (close_of remove) (λ M 𝓤 𝓛. clauses 𝓛) holds 𝓛 𝓜 𝓡
+    𝓡.env call.name (code.unfolded 𝓤 𝓛.H 𝓜 𝓡 wired) (𝓡.env callee.name) refl (met 𝓤 𝓛 𝓜 𝓡 (code.calls-board_in_place::remove_value 𝓡.env wired))

@@ -1,5 +1,5 @@
--- `board_in_place::assign_variable_here` meets its contract: `in_place`'s law at `board_in_place::assign_variable`.
-use mathlib.Core.List.{[], ◌∷◌}
+-- `board_in_place::assign_variable_here` is an instance of `in_place`'s law `here`, at `board_in_place::assign_variable`. Assumes nothing.
+use Rattle.std.specs.Prelude.{refl, [], ◌∷◌}
 use base.Logic.{emp}
 use contract.Monad.{fact_i}
 use Rattle.in_place.proofs.Contracts.{Holds}
@@ -14,11 +14,10 @@ use Rattle.board_in_place.specs.contracts.assign_variable_here.Key as call
 use Rattle.board_in_place.proofs.assign_variable_here.Statement.{statement}
 use Rattle.board_in_place.proofs.assign_variable_here.Code as code
 
-holds : Holds board told both_told (variable ∷ value ∷ []) (close_of assign) (λ M. clauses)
+holds : Holds board told both_told (variable ∷ value ∷ []) (close_of assign) (λ M 𝓤 𝓛. clauses 𝓛)
 holds M 𝓤 𝓛 m run κs a g r ws e = fact_i 𝓤 _ (emp 𝓤) e
 
-pub assign-variable-here-spec : {M : Type 1} → statement M
-unfolding code.routine
-assign-variable-here-spec 𝓤 𝓛 𝓜 𝓡 =
-    here board told both_told (variable ∷ value ∷ []) callee.name (close_of assign) (λ M. clauses) holds 𝓛 𝓜 𝓡
-    code.env call.name (code.unfolded 𝓤 𝓛.H 𝓜 𝓡) callee.routine code.calls-board-in-place::assign-variable (met 𝓤 𝓛 𝓜 𝓡)
+pub assign_variable_here_is_here : {M : Type 1} → statement M
+assign_variable_here_is_here 𝓤 𝓛 𝓜 𝓡 wired =
+    here board told both_told (variable ∷ value ∷ []) callee.name (close_of assign) (λ M 𝓤 𝓛. clauses 𝓛) holds 𝓛 𝓜 𝓡
+    𝓡.env call.name (code.unfolded 𝓤 𝓛.H 𝓜 𝓡 wired) (𝓡.env callee.name) refl (met 𝓤 𝓛 𝓜 𝓡 (code.calls-board_in_place::assign_variable 𝓡.env wired))

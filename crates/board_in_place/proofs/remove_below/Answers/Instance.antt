@@ -1,5 +1,5 @@
--- `board_in_place::remove_below` meets its contract: `in_place`'s law at `board_close::remove_below`.
-use mathlib.Core.List.{[], ◌∷◌}
+-- `board_in_place::remove_below` is an instance of `in_place`'s law `thin`, at `board_close::remove_below`. Assumes nothing.
+use Rattle.std.specs.Prelude.{refl, [], ◌∷◌}
 use base.Logic.{emp}
 use contract.Monad.{fact_i}
 use Rattle.in_place.proofs.Contracts.{HoldsBehind}
@@ -14,11 +14,10 @@ use Rattle.board_in_place.specs.contracts.remove_below.Key as call
 use Rattle.board_in_place.proofs.remove_below.Statement.{statement}
 use Rattle.board_in_place.proofs.remove_below.Code as code
 
-holds : HoldsBehind board told both_told (variable ∷ value ∷ []) (close_of below) (λ M. clauses)
+holds : HoldsBehind board told both_told (variable ∷ value ∷ []) (close_of below) (λ M 𝓤 𝓛. clauses 𝓛)
 holds M 𝓤 𝓛 m run κs a g r ws e = fact_i 𝓤 _ (emp 𝓤) e
 
-pub remove-below-spec : {M : Type 1} → statement M
-unfolding code.routine
-remove-below-spec 𝓤 𝓛 𝓜 𝓡 =
-    thin board told both_told (variable ∷ value ∷ []) callee.name (close_of below) (λ M. clauses) holds 𝓛 𝓜 𝓡
-    code.env call.name (code.unfolded 𝓤 𝓛.H 𝓜 𝓡) callee.routine code.calls-board-close::remove-below (met 𝓤 𝓛 𝓜 𝓡)
+pub remove_below_is_thin : {M : Type 1} → statement M
+remove_below_is_thin 𝓤 𝓛 𝓜 𝓡 wired =
+    thin board told both_told (variable ∷ value ∷ []) callee.name (close_of below) (λ M 𝓤 𝓛. clauses 𝓛) holds 𝓛 𝓜 𝓡
+    𝓡.env call.name (code.unfolded 𝓤 𝓛.H 𝓜 𝓡 wired) (𝓡.env callee.name) refl (met 𝓤 𝓛 𝓜 𝓡 (code.calls-board_close::remove_below 𝓡.env wired))
