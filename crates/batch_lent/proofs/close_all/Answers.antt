@@ -1,5 +1,5 @@
 -- `batch_lent::close_all` meets its contract: a turn puts one record more into the run; a full run is handed on, as is what stands in it at the end. Assumes nothing.
-use Rattle.std.specs.Prelude.{◌+◌, ◌*◌, ◌<◌, ◌^◌, length}
+use Rattle.std.specs.Prelude.{◌+◌}
 use Rattle.std.proofs.Common.{arith, rules, lit<}
 use Rattle.board.specs.Obeys.{Whole}
 use Rattle.board.proofs.ViewLaws.{mapped}

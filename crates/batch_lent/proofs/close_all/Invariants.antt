@@ -1,5 +1,5 @@
 -- The loop of `batch_lent::close_all`: the first records are closed, and the next stand in the run, which is not full. Assumes nothing.
-use Rattle.std.specs.Prelude.{ℕ, ◌-◌, ◌<◌, length}
+use Rattle.std.specs.Prelude.{◌-◌, ◌<◌, length}
 use Rattle.batch_lent.proofs.RunLaws.{Filled}
 use Rattle.batch_lent.proofs.close_all.Given as goal
 

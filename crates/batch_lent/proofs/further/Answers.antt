@@ -1,5 +1,5 @@
 -- `batch_lent::further` meets its contract: a refused batch stays refused, and the tally of a well-formed board's rows is the batch. Assumes nothing.
-use Rattle.std.specs.Prelude.{◌≡◌, true, ℕ, ◌+◌, ◌≤◌, ◌<◌, ◌^◌, length, take}
+use Rattle.std.specs.Prelude.{ℕ, ◌+◌, ◌≤◌, ◌<◌, ◌^◌, length, take}
 use Rattle.std.proofs.Common.{sym, ◌∙◌, arith, rules, Fits, w64}
 use Rattle.domain.specs.declared.Counted.TheVariants as counted
 use Rattle.board.specs.Obeys.{Whole}
