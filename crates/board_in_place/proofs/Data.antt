@@ -27,5 +27,5 @@ told = enum_kind Tol.the_type Tol'.the_laws tt Tol'.the_plain
 -- the struct that a call by value hands back
 abbrev pub both_told : Two board told
 both_told =
-    two Boa.the_type Boa'.the_laws Boa'.the_plain Tol.the_type Tol'.the_laws tt Tol'.the_plain (Clo.the_type).name (Clo.the_type).args (Clo.the_type).D (λ r. r.board) (λ r. r.answer) (Clo.the_type).to_one closed
+    two Boa.the_type Boa'.the_laws Boa'.the_plain Tol.the_type Tol'.the_laws tt Tol'.the_plain (Clo.the_type).name (Clo.the_type).args (Clo.the_type).types (Clo.the_type).D (λ r. r.board) (λ r. r.answer) (Clo.the_type).to_one closed
     (λ r. refl) (λ b a. refl) (λ b a. refl)

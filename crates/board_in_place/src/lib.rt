@@ -2,8 +2,7 @@
 // of the call by value. A refused call leaves it as it was.
 //
 // remove_value, assign_variable, remove_below, remove_above; each is thin over the call of `board_close` by its name.
-// remove_value_here, assign_variable_here, ..: the same by value, each lending a local to the call above it: only a proof by hand can hold a reference
-// to a struct, so other proved code reaches the calls above through these
+// remove_value_here, assign_variable_here, ..: the same by value, each lending a local to the call above it, for callers that hold no reference
 #![tactic(auto)]
 
 ghost use Rattle.std.specs.Prelude.{◌≡◌};

@@ -1,5 +1,5 @@
 -- The types of the calls, as the laws of `in_place` take them. Assumes nothing.
-use Rattle.std.specs.Prelude.{refl}
+use mathlib.Core.Path.{refl}
 use Rattle.in_place.proofs.PlainData.{Kind, struct_kind, enum_kind, Two, two}
 use Rattle.domain_in_place.specs.Behind.{changed, narrowed}
 use Rattle.rules.specs.contracts.Value as Val
@@ -28,10 +28,10 @@ outcome = enum_kind Out.the_type Out'.the_laws tt Out'.the_plain
 -- the structs that the calls by value hand back
 abbrev pub both_told : Two domain told
 both_told =
-    two Dom.the_type Dom'.the_laws Dom'.the_plain Tol.the_type Tol'.the_laws tt Tol'.the_plain (Cha.the_type).name (Cha.the_type).args (Cha.the_type).D (λ r. r.domain) (λ r. r.answer) (Cha.the_type).to_one changed
+    two Dom.the_type Dom'.the_laws Dom'.the_plain Tol.the_type Tol'.the_laws tt Tol'.the_plain (Cha.the_type).name (Cha.the_type).args (Cha.the_type).types (Cha.the_type).D (λ r. r.domain) (λ r. r.answer) (Cha.the_type).to_one changed
     (λ r. refl) (λ d a. refl) (λ d a. refl)
 
-abbrev pub both-outcome : Two domain outcome
-both-outcome =
-    two Dom.the_type Dom'.the_laws Dom'.the_plain Out.the_type Out'.the_laws tt Out'.the_plain (Nar.the_type).name (Nar.the_type).args (Nar.the_type).D (λ r. r.domain) (λ r. r.answer) (Nar.the_type).to_one narrowed
+abbrev pub both_outcome : Two domain outcome
+both_outcome =
+    two Dom.the_type Dom'.the_laws Dom'.the_plain Out.the_type Out'.the_laws tt Out'.the_plain (Nar.the_type).name (Nar.the_type).args (Nar.the_type).types (Nar.the_type).D (λ r. r.domain) (λ r. r.answer) (Nar.the_type).to_one narrowed
     (λ r. refl) (λ d a. refl) (λ d a. refl)

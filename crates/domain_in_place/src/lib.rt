@@ -2,8 +2,7 @@
 // the call by value. A refused call leaves it as it was.
 //
 // insert, remove, remove_all_but, remove_below, remove_above; each is thin over the call of `domain` by its name.
-// insert_here, remove_here, ..: the same by value, each lending a local to the call above it: only a proof by hand can hold a reference to a struct, so
-// other proved code reaches the calls above through these
+// insert_here, remove_here, ..: the same by value, each lending a local to the call above it, for callers that hold no reference
 #![tactic(auto)]
 
 ghost use Rattle.std.specs.Prelude.{◌≡◌};

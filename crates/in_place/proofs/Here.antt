@@ -4,10 +4,10 @@
 -- at the last value that the contract says; it and the answer are the result. Assumes nothing.
 use Rattle.std.specs.Prelude.{◌≡◌, refl, [], ◌∷◌, List, ℕ, suc}
 use Rattle.std.proofs.Common.{◌∙◌, ap, subst}
-use mir.Syntax.{Name, Fn, Ty, ty_ref, mut, local, value_local, memory_slot, seq, assign, call, return, place, rv_opd, addr_of, aggregate, copy, named, erased}
+use mir.Syntax.{Callee, Fn, Ty, ty_ref, mut, local, value_local, memory_slot, seq, assign, call, return, place, rv_opd, addr_of, aggregate, copy, named, erased}
 use mir.Val.{Val, vptr}
 use seplogic.Ra.Ura.{Ura}
-use seplogic.Ra.TreeShare.{full_share}
+use base.Fraction.{full_share}
 use base.Logic.{SProp, ent, emp, via, fst∗, guard, id⊢}
 use base.Fml.{GName, ftrue, fat, fsep, flft, flent}
 use prog.Model.{Model}
@@ -40,7 +40,7 @@ use denote.Triple.Walked.{says, Stays, stay_dropped, walk_of, Goes-dropped, Walk
 use denote.Triple.Clauses.{ensured, lasts, closing}
 use denote.Exit.{yes as kept}
 use Rattle.in_place.proofs.PlainData.{Kind, row, makes, vals, Good, Two, result, result_ty, result-makes, pack}
-use Rattle.in_place.proofs.Parameters.{Values, Curried, apply, Goods, slots, keeps, stays, goes, Args, of, to, of-to, fins, fits, spells, tells, passed, goods-of, had, owned-all, locals, past, operands, spot_past, from-later, from_start, alloc_all, pass_all, forget-all, free_all, found, reads_all}
+use Rattle.in_place.proofs.Parameters.{Values, Curried, apply, Goods, slots, keeps, stays, goes, Args, of, to, of-to, fins, fits, spells, tells, passed, goods-of, had, owned-all, locals, env, past, operands, spot_past, from-later, from_start, alloc_all, pass_all, forget-all, free_all, found, reads_all}
 use Rattle.in_place.proofs.Contracts.{by_value, by-value-ended, by-value-clauses, Answers, behind-ended, behind-clauses, Behind, Stated, Holds, as-stated}
 
 -- a local's cell is what is lent, and what comes back is a local's cell
@@ -61,7 +61,7 @@ module _ (T : Kind) {M : Type 1} {𝓤 : Ura M} (𝓛 : Logic 𝓤) (b : ℕ) (d
       move ! (1 ∷ []) $ peeks ! (row T) (Is (row T)) (shows 𝓛 (row T)) d (vals T d) (λ is. drop ! $ use1 𝓛 (‵ (fat full_share T.ty b 0 (T.val d))) (𝓛.laws.raw_at full_share T.ty b 0 (T.val d)) $ check ! is $ done !))
 
 -- the struct, the answer, the result that holds the two, the further parameters, and the callee
-module _ (T O : Kind) (R : Two T O) (Ps : List Kind) (#callee : Name) where
+module _ (T O : Kind) (R : Two T O) (Ps : List Kind) (#callee : Callee) where
   -- the locals after the parameters: what is lent, the callee's answer, the reference, and a copy of what is back
   abbrev after : ℕ → ℕ → ℕ → ℕ → List (Ty × ℕ)
   after a b c d = (T.ty, a) ∷ (O.ty, b) ∷ (ty_ref erased mut (pointee T.written), c) ∷ (T.ty, d) ∷ []
@@ -83,6 +83,8 @@ module _ (T O : Kind) (R : Two T O) (Ps : List Kind) (#callee : Name) where
   function = record {
     lifetimes = 0;
     outlives = [];
+    ty_params = [];
+    givens = 0;
     params = suc (past Ps 0);
     locals = local (result_ty T O R) value_local ∷ local T.ty value_local ∷ locals Ps (local T.ty memory_slot ∷ local O.ty value_local ∷ local (ty_ref erased mut (pointee T.written)) value_local ∷ local T.ty value_local ∷ []);
     body =
@@ -151,11 +153,11 @@ module _ (T O : Kind) (R : Two T O) (Ps : List Kind) (#callee : Name) where
             use1 𝓛 (later (some (λ (γ : GName). ‵ ((MutRef (named 0) (α ∷ []) (row T)).own_val (x l₃ γ) (vptr l₃ 0 ∷ [])) ⊛ ‵ (flent (α ∷ []) (InMemory (mem (row T)) l₃ 0 γ))))) (lends_ref 𝓛 (row T) (named 0) (α ∷ []) d l₃ 0) $ await ! tt $ pick ! (λ γ. split ! $
             move ! (2 ∷ 0 ∷ []) $ use2 𝓛 (raw ((Behind T O R Ps f 𝓤 𝓛).pre (call_at α l₃ γ))) (asked α l₃ γ) $
             -- [what the callee asks; the lender's part; the parameters' locals; the copy; …; the reference; …; the answer; …; that what is lent dies; _1; …; room for _0; …]
-            calls_at ! fm (Behind T O R Ps f 𝓤 𝓛) known (call_at α l₃ γ) (and_then ! (load ! (found ! (spot_past 𝓤 H Ps bs (after l₃ l₄ l₅ l₆) 2) (stop !)) (look ! 5 refl)) (reads_all ! 2 1 (α ∷ [], tt) 2 Ps bs z (from-later 𝓤 H _ _ 1 Ps bs (from-later 𝓤 H _ _ 0 Ps bs (from_start 𝓤 H Ps bs (after l₃ l₄ l₅ l₆)))) refl)) (λ u.
+            calls_at ! fm (Behind T O R Ps f 𝓤 𝓛) known (call_at α l₃ γ) (and_then ! (load ! (found ! (spot_past 𝓤 H Ps bs (after l₃ l₄ l₅ l₆) 2) (stop !)) (look ! 5 refl)) (reads_all ! 2 1 (α ∷ [], tt) 2 Ps bs z (from-later 𝓤 H (result_ty T O R, l₀) ((T.ty, l₁) ∷ env Ps bs (after l₃ l₄ l₅ l₆)) 1 Ps bs (from-later 𝓤 H (T.ty, l₁) (env Ps bs (after l₃ l₄ l₅ l₆)) 0 Ps bs (from_start 𝓤 H Ps bs (after l₃ l₄ l₅ l₆)))) refl)) (λ u.
             use1 𝓛 (later (some (λ (a : O.D). ((‵ (flft (α ∷ []) full_share) ⊛ ‵ ftrue) ⊛ ‵ (O.own a (u ∷ []))) ⊛ raw (ensured 𝓛 (behind-ended T O R Ps) (behind-clauses T O R Ps f 𝓤) (α ∷ [], tt) (x l₃ γ, z₁ α) tt a)))) (id⊢ 𝓤 _) $ await ! tt $ pick ! (λ a.
-            -- what the callee ensures, at some last value
+            -- what the callee ensures, at some last value; the borrow that it hands back is let go
             split ! $ move ! (1 ∷ []) $ use1 𝓛 (some (λ (ws : T.D × Fins (α ∷ [], tt) (slots 1 Ps) (keeps 1 Ps) (z₁ α)). ‵ (lasts (behind-ended T O R Ps) (α ∷ [], tt) (x l₃ γ, z₁ α) ws) ⊛ raw (fact 𝓤 (R.both ws.0 a ≡ apply Ps (f d) (of 1 (α ∷ [], tt) Ps (z₁ α)))))) (id⊢ 𝓤 _) $ pick ! (λ ws.
-            split ! $ move ! (1 ∷ []) $ heard ! (R.both ws.0 a ≡ apply Ps (f d) (of 1 (α ∷ [], tt) Ps (z₁ α))) (λ e. fsplit ! $ move ! (2 ∷ []) $ split ! $ move ! (1 ∷ []) $
+            split ! $ move ! (1 ∷ []) $ heard ! (R.both ws.0 a ≡ apply Ps (f d) (of 1 (α ∷ [], tt) Ps (z₁ α))) (λ e. fsplit ! $ fsplit ! $ move ! (1 ∷ []) $ drop ! $ move ! (2 ∷ []) $ split ! $ move ! (1 ∷ []) $
             peeks ! (row O) (Is (row O)) (shows 𝓛 (row O)) a (u ∷ []) (λ ib. drop ! $
             -- [the token; the last value; …; the lender's part; the parameters' locals; the copy; …; the reference; …; the answer; …; that what is lent dies; _1; …; room for _0; …]
             land ! (found ! (spot_past 𝓤 H Ps bs (after l₃ l₄ l₅ l₆) 1) (stop !)) (init ! 9 refl (O.typed 𝓛 a _ ib).0) $
@@ -177,13 +179,13 @@ module _ (T O : Kind) (R : Two T O) (Ps : List Kind) (#callee : Name) where
         (λ κs qs bounds a g are. via 𝓤 _ (fst∗ 𝓤 _ (emp 𝓤)) (walk 𝓛 a.0 are.0 a.1 (goods-of 0 κs Ps a.1 are.1) C Λ fm known))
 
     -- a function `call_here` with this code, where its callee's routine meets the contract through a reference: it meets the contract c that the program states, if c follows from what the callee tells
-    pub here : (c : Stated (by-value-ended T O R Ps)) → Holds T O R Ps f c → {M : Type 1} {𝓤 : Ura M} (𝓛 : Logic 𝓤) (𝓜 : Model 𝓤 𝓛.H) (𝓡 : Running 𝓤 𝓛.H 𝓜) (γ : Env) (#call : Name)
+    pub here : (c : Stated (by-value-ended T O R Ps)) → Holds T O R Ps f c → {M : Type 1} {𝓤 : Ura M} (𝓛 : Logic 𝓤) (𝓜 : Model 𝓤 𝓛.H) (𝓡 : Running 𝓤 𝓛.H 𝓜) (γ : Env) (#call : Callee)
         → Closed 𝓤 𝓛.H (tables 𝓤 𝓛.H 𝓜 𝓡 γ).C (tables 𝓤 𝓛.H 𝓜 𝓡 γ).Λ #call function → (callee : Routine) → γ #callee ≡ callee → Triple 𝓤 (𝓡.run callee) (Behind T O R Ps f 𝓤 𝓛)
-        → Meets 𝓛 (by_value T O R Ps) (𝓡.run (γ #call)) (closing 𝓛 (by-value-ended T O R Ps) (c M 𝓤 𝓛 𝓜.mem 𝓡.run))
+        → Meets 𝓛 (by_value T O R Ps) (𝓡.run (γ #call)) (closing 𝓛 (by-value-ended T O R Ps) (c M 𝓤 𝓛 𝓜.mem 𝓡.returns))
     unfolding tables_of
     here c holds {M} {𝓤 = 𝓤} 𝓛 𝓜 𝓡 γ #call unfolded callee is known =
         let 𝓣 : Tables 𝓤 𝓛.H = tables_of 𝓤 𝓛.H 𝓜 (tables 𝓤 𝓛.H 𝓜 𝓡 γ) in
-        entered 𝓤 𝓛.H (triple_of 𝓛 (by_value T O R Ps) (closing 𝓛 (by-value-ended T O R Ps) (c M 𝓤 𝓛 𝓜.mem 𝓡.run))) 𝓣.C 𝓣.Λ #call function unfolded
-        (as-stated (by-value-ended T O R Ps) (Answers T O R Ps f) c holds 𝓛 𝓜.mem 𝓡.run (WpFn 𝓤 𝓛.H 𝓣.C 𝓣.Λ function) (WpFn-mono 𝓤 𝓛.H 𝓛.laws 𝓣 function)
+        entered 𝓤 𝓛.H (triple_of 𝓛 (by_value T O R Ps) (closing 𝓛 (by-value-ended T O R Ps) (c M 𝓤 𝓛 𝓜.mem 𝓡.returns))) 𝓣.C 𝓣.Λ #call function unfolded
+        (as-stated (by-value-ended T O R Ps) (Answers T O R Ps f) c holds 𝓛 𝓜.mem 𝓡.returns (WpFn 𝓤 𝓛.H 𝓣.C 𝓣.Λ function) (WpFn-mono 𝓤 𝓛.H 𝓛.laws 𝓣 function)
         (walk_Meets 𝓛 (by-value-ended T O R Ps) stayed (Goes-dropped 𝓛 0 (plain (λ _. row T)) kept (λ κs x f. refl), goes 0 𝓛 Ps) (by-value-clauses T O R Ps f 𝓤) (WpFn 𝓤 𝓛.H 𝓣.C 𝓣.Λ function) (WpFn-mono 𝓤 𝓛.H 𝓛.laws 𝓣 function)
         (walks 𝓛 𝓣.C 𝓣.Λ (fm_of 𝓤 𝓛.H 𝓛.laws 𝓣) (cited 𝓤 𝓛.H (Behind T O R Ps f 𝓤 𝓛) 𝓜 𝓡 γ #callee callee is known))))

@@ -17,7 +17,7 @@ use Rattle.std.proofs.Common.{sym, subst}
 use mir.Syntax.{Ty, Local, local, value_local, Opd as Operand, copy, place, Step as PStep}
 use mir.Val.{Val}
 use seplogic.Ra.Ura.{Ura}
-use seplogic.Ra.TreeShare.{full_share}
+use base.Fraction.{full_share}
 use base.Logic.{SProp, ent, emp, sep, wand, ex, id⊢, via, comm∗, mono_r, wand_i, ex_i}
 use base.Fml.{Share, ftrue, fat, froom, fdies}
 use prog.Wp.{Heap, Env, Spot, spot_of}

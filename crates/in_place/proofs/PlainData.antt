@@ -6,13 +6,13 @@
 --     struct_kind, enum_kind, two     the kind of a declared struct, of a declared enum, and the struct that holds the two. At a type of a program the
 --                              row that they give is the type's own, by computation
 -- `typed` assumes `Logic`. All else assumes nothing.
-use Rattle.std.specs.Prelude.{◌≡◌, refl, List, [], ◌∷◌, ◌++◌}
+use Rattle.std.specs.Prelude.{◌≡◌, refl, List, [], ◌∷◌, ◌++◌, ℕ}
 use Rattle.std.proofs.Common.{sym, ◌∙◌, subst}
 use mir.Syntax.{Sym, Ty, ty_struct, tcons, tnil, Lifetime, Written}
 use mir.Val.{Val, vstruct, of_list}
 use seplogic.Ra.Ura.{Ura}
 use base.Stored.{Coded}
-use base.Fml.{Fml}
+use base.Fml.{Fml, Lft}
 use types.Logic.{Logic}
 use denote.Exit.{unchanged}
 use denote.RattleType.{RattleType}
@@ -26,23 +26,25 @@ use denote.Enum.Enum as E
 use denote.Enum.Declared as ED
 use denote.Enum.Laws as EL
 
-abbrev row_of : (D : Type 0) → Ty → Written → List (Written × List Ty) → (D → List Val → Fml) → Coded D → RattleType
-row_of D τ w rs own c = record { Denot = D; mir = τ ∷ []; written = w; reaches = rs; own_val = own; exit = λ k. unchanged; coded = c }
+abbrev row_of : (D : Type 0) → Ty → Written → List (Written × List Ty) → Lft → (D → List Val → Fml) → Coded D → (D → ℕ → ℕ → Lft → Fml) → RattleType
+row_of D τ w rs ls own c shr = record { Denot = D; mir = τ ∷ []; written = w; reaches = rs; lives = ls; own_val = own; exit = λ k. unchanged; coded = c; shr_at = shr }
 
 pub record Kind : Type 2 where
   pub D : Type 0
   pub ty : Ty
   pub written : Written
   pub reaches : List (Written × List Ty)
+  pub lives : Lft
   pub own : D → List Val → Fml
   pub coded : Coded D
+  pub shr : D → ℕ → ℕ → Lft → Fml
   pub val : D → Val
   pub tells : (x : D) (vs : List Val) → shadow (own x vs) → vs ≡ val x ∷ []
   pub typed : {M : Type 1} {𝓤 : Ura M} (𝓛 : Logic 𝓤) → (x : D) (vs : List Val) → shadow (own x vs) → Typed (ty ∷ []) vs
   pub pure : (x : D) (vs : List Val) → Pure (own x vs)
 
 abbrev pub row : Kind → RattleType
-row K = row_of K.D K.ty K.written K.reaches K.own K.coded
+row K = row_of K.D K.ty K.written K.reaches K.lives K.own K.coded K.shr
 
 pub makes : (K : Kind) {M : Type 1} {𝓤 : Ura M} (𝓛 : Logic 𝓤) → Makes 𝓛 (row K) (Is (row K))
 makes K 𝓛 x vs = makes_shadow 𝓛 (K.own x vs) (K.pure x vs)
@@ -60,8 +62,10 @@ struct_kind T L pl = record {
   ty = S.layout (SD.shape T);
   written = (SD.row T).written;
   reaches = (SD.row T).reaches;
-  own = (SD.row T).own;
+  lives = (SD.row T).lives;
+  own = (SD.row T).own_val;
   coded = (SD.row T).coded;
+  shr = (SD.row T).shr_at;
   val = SL.val T L;
   tells = SL.tells T L;
   typed = λ 𝓛. (SL.lawful T L 𝓛).typed;
@@ -74,8 +78,10 @@ enum_kind T L few pl = record {
   ty = E.layout (ED.shape T);
   written = (ED.row T).written;
   reaches = (ED.row T).reaches;
-  own = (ED.row T).own;
+  lives = (ED.row T).lives;
+  own = (ED.row T).own_val;
   coded = (ED.row T).coded;
+  shr = (ED.row T).shr_at;
   val = EL.val T L;
   tells = EL.tells T L;
   typed = λ 𝓛. (EL.lawful T L 𝓛 few).typed;
@@ -95,8 +101,10 @@ module _ (T O : Kind) where
     pub D : Type 0
     pub written : Written
     pub reaches : List (Written × List Ty)
+    pub lives : Lft
     pub own : D → List Val → Fml
     pub coded : Coded D
+    pub shr : D → ℕ → ℕ → Lft → Fml
     pub state : D → T.D
     pub answer : D → O.D
     pub both : T.D → O.D → D
@@ -110,7 +118,7 @@ module _ (T O : Kind) where
   result_ty R = pair_ty R.name
 
   abbrev pub result : Two → RattleType
-  result R = row_of R.D (result_ty R) R.written R.reaches R.own R.coded
+  result R = row_of R.D (result_ty R) R.written R.reaches R.lives R.own R.coded R.shr
 
   pub result-makes : (R : Two) {M : Type 1} {𝓤 : Ura M} (𝓛 : Logic 𝓤) → Makes 𝓛 (result R) (Is (result R))
   result-makes R 𝓛 r vs = makes_shadow 𝓛 (R.own r vs) (R.pure r vs)
@@ -123,9 +131,9 @@ module _ (T : SD.Declared) (Lt : SL.Laws T) (p_t : S.Plains (SD.fields T)) (O : 
   abbrev Oᵏ : Kind
   Oᵏ = enum_kind O LO few p_o
 
-  module _ (ν : Sym) (args : List Lifetime) (D : Type 0) (state : D → T.D) (answer : D → O.D) where
+  module _ (ν : Sym) (args : List Lifetime) (types : List RattleType) (D : Type 0) (state : D → T.D) (answer : D → O.D) where
     abbrev shape : S.Shape
-    shape = record { name = ν; args = args; fields = S.Struct (SD.shape T) ∷ E.Enum (ED.shape O) ∷ [] }
+    shape = record { name = ν; args = args; types = types; fields = S.Struct (SD.shape T) ∷ E.Enum (ED.shape O) ∷ [] }
 
     abbrev to : D → (S.Struct shape).Denot
     to r = (T.to (state r), (O.to (answer r), tt))
@@ -150,8 +158,10 @@ module _ (T : SD.Declared) (Lt : SL.Laws T) (p_t : S.Plains (SD.fields T)) (O : 
           D = D;
           written = the_row.written;
           reaches = the_row.reaches;
+          lives = the_row.lives;
           own = the_row.own_val;
           coded = the_row.coded;
+          shr = the_row.shr_at;
           state = state;
           answer = answer;
           both = both;
