@@ -6,6 +6,7 @@ use Rattle.wave_enter.specs.Registered.{registered_of}
 use Rattle.wave_enter.proofs.Registers.{all-rows, Open, open-start, open-end, room, fits, open_more}
 use Rattle.wave_enter.proofs.register.Statement.{statement}
 use Rattle.wave_enter.proofs.register.Tie as tie
+use Rattle.wave_enter.proofs.register.Lts.{then-to-count, else-to-count}
 
 abbrev invariant-loop : tie.invariant-loop-i
 invariant-loop dn ds rows₀ count₀ ids₀ met₀ i₀ rows count ids met i = (i ≤ dn) × (length rows ≡ 64) × (length ids ≡ 64) × (length met ≡ 1024) × Open (take i ds) rows count ids met
@@ -86,7 +87,7 @@ loop-again c =
       rw length-set c.loop-i.invariant.2,
       rw length-set c.loop-i.invariant.3,
       open_more a.ds c.loop-i.i (reached c.before.before.before.before.before.before.before.before.before).0 (reached c.before.before.before.before.before.before.before.before.before).1 c.loop-i.rows c.loop-i.count c.loop-i.ids c.loop-i.met c.loop-i.invariant.4 c.place_of-to.result c.place_of-to.ensures
-          c.if-to-count.count (⊎_elim (λ w. inl (w.0.taken, w.1)) (λ w. inr (w.0.left, w.1)) c.if-to-count.branch)
+          c.if-to-count.count (elim c.if-to-count.branch [ then-to-count w ↦ inl (w.if-to-count.true, w.count-is) | else-to-count w ↦ inr (w.if-to-count.false, w.count-is) ])
           c.loop-i.invariant.1 c.loop-i.invariant.2 c.loop-i.invariant.3 c.new-domain.result c.new-domain.ensures,
     )
 

@@ -24,7 +24,7 @@ returns-in-Long c =
 pub returns-in-Bad : goal.returns-in-Bad
 returns-in-Bad c =
     let a = c.args in
-    by-bad (form_of a.kinds.now (length a.ids.now) (length a.values.now)) (closings_of a.kinds.now a.ids.now a.values.now) a.ws.now c.form-1.given.0.0 (sym c.form-1.given.1 ∙ c.judge-form.ensures) c.refuse-in-Bad.result c.refuse-in-Bad.ensures
+    by-bad (form_of a.kinds.now (length a.ids.now) (length a.values.now)) (closings_of a.kinds.now a.ids.now a.values.now) a.ws.now c.in-Bad.place (sym c.in-Bad.is ∙ c.judge-form.ensures) c.refuse-in-Bad.result c.refuse-in-Bad.ensures
 
 pub returns-in-Batch : goal.returns-in-Batch
 returns-in-Batch c =

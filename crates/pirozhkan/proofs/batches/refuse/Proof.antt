@@ -29,7 +29,7 @@ returns-3 : tie.Need-returns-in-Is
 returns-3 c =
     let a = c.args in
     c.refusal-in-Is.ensures
-    ∙ answered-passed (refusing a.r) a.ws.now (refusing-guarded a.r) (zero c.before.before.before.before) (rules.denied a.r) (refused-well c.read-b.result a.r c.in-Is._ (sym c.in-Is.is ∙ c.domains_changed-well.ensures) ∙ ap (refusing a.r) c.read-b.ensures)
+    ∙ answered-passed (refusing a.r) a.ws.now (refusing-guarded a.r) (zero c.before.before.before.before) (rules.denied a.r) (refused-well c.read-b.result a.r c.in-Is.field-0 (sym c.in-Is.is ∙ c.domains_changed-well.ensures) ∙ ap (refusing a.r) c.read-b.ensures)
 
 pub refuse_spec : {M : Type 1} → statement M
 refuse_spec =
