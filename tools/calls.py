@@ -12,7 +12,7 @@ def read(*path):
 def crates():
     """crates.txt: each crate with its dependencies, in order."""
     lines = (line.split("#")[0].split(":") for line in read("crates.txt").splitlines())
-    return {l[0].strip(): l[1].split() for l in lines if len(l) == 2}
+    return {l[0].split()[0]: l[1].split() for l in lines if len(l) == 2}
 
 
 def sources(crate):

@@ -1,4 +1,4 @@
-// The public calls of a board and of trials behind one exported function, for comparisons with the Rust.
+// The public calls of a board and of trials behind one function, for comparisons with the Rust; `board_probe_c` exports it.
 //
 // probe_board: runs a script of calls, bytes in, answers and what shows the board as bytes out (differential/FORMAT.md says which)
 //

@@ -130,8 +130,7 @@ fn write(op: u64, d: Done, out: &mut [u8], to: usize) -> usize
 
 // Runs the script on a new board and registers that begin at 0, as far as `out` has room for what any record may answer, and
 // answers how many bytes were written.
-#[unsafe(no_mangle)]
-pub extern "C" fn probe_board(script: &[u8], out: &mut [u8]) -> usize
+pub fn probe_board(script: &[u8], out: &mut [u8]) -> usize
     ensures { result ≤ length out.new }
 {
     let mut board = board_enter::new();

@@ -1,5 +1,5 @@
-// The forms with a proof by hand behind one exported function, for comparisons with the Rust: removal through a reference, and
-// a batch by value and lent, with its first closing alone through a reference. A frame is one or the other.
+// The forms with a proof by hand behind one function, for comparisons with the Rust: removal through a reference, and a batch
+// by value and lent, with its first closing alone through a reference. A frame is one or the other. `hand_probe_c` exports it.
 //
 // probe_hand: runs a frame, bytes in, answers and states as bytes out (differential/FORMAT.md says which)
 //
@@ -301,8 +301,7 @@ fn batches(script: &[u8], out: &mut [u8])
 }
 
 // The answers to one frame: 6,400 bytes to removals, 3,192 to a batch. Where there is less room than a frame, none.
-#[unsafe(no_mangle)]
-pub extern "C" fn probe_hand(script: &[u8], out: &mut [u8]) -> usize
+pub fn probe_hand(script: &[u8], out: &mut [u8]) -> usize
     ensures { result ≤ length out.new }
 {
     if script.len() < FRAME {

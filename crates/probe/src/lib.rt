@@ -1,4 +1,4 @@
-// The public calls of the bit domain behind one exported function, for comparisons with the Rust.
+// The public calls of the bit domain behind one function, for comparisons with the Rust; `probe_c` exports it.
 //
 // probe_domain: runs a script of calls, bytes in, answers and states as bytes out (differential/FORMAT.md says which)
 //

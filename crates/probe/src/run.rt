@@ -128,8 +128,7 @@ fn write(op: u64, d: Done, out: &mut [u8], to: usize) -> usize
 
 // Runs the script on registers that begin at 0, as far as `out` has room for what any record may answer, and answers how many
 // bytes were written.
-#[unsafe(no_mangle)]
-pub extern "C" fn probe_domain(script: &[u8], out: &mut [u8]) -> usize
+pub fn probe_domain(script: &[u8], out: &mut [u8]) -> usize
     ensures { result ≤ length out.new }
 {
     let mut regs = [0u64; 256];

@@ -1,4 +1,4 @@
-// The public calls of the sparse set behind one exported function, for comparisons with the Rust.
+// The public calls of the sparse set behind one function, for comparisons with the Rust; `sparse_probe_c` exports it.
 //
 // probe_sparse: runs a script of calls, bytes in, answers and states as bytes out (differential/FORMAT.md says which)
 //

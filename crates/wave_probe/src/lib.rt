@@ -1,4 +1,4 @@
-// The wave behind exported functions, for comparisons with the Rust and for the clock.
+// The wave behind functions on bytes, for comparisons with the Rust and for the clock; `wave_probe_c` exports them.
 //
 // probe_wave: a script of sheets, the texts out. bench_wave: one sheet, its text out.
 //
@@ -50,8 +50,7 @@ fn answer(sheet: &[u8], out: &mut [u8], at: usize, room: usize)
 // Runs the script's sheets as far as `out` has room, and answers how many bytes were written. A record is a word, of which the low half is the
 // sheet's length and the high half how many bytes are lent for its text, then the sheet; a length that the script doesn't have ends it. The answer
 // to a record is a word, how many bytes the text has or all ones for a refusal, then the lent bytes and eight past them.
-#[unsafe(no_mangle)]
-pub extern "C" fn probe_wave(script: &[u8], out: &mut [u8]) -> usize
+pub fn probe_wave(script: &[u8], out: &mut [u8]) -> usize
     ensures { result ≤ length out.new }
 {
     let mut at = 0;
@@ -75,8 +74,7 @@ pub extern "C" fn probe_wave(script: &[u8], out: &mut [u8]) -> usize
     to
 }
 
-#[unsafe(no_mangle)]
-pub extern "C" fn bench_wave(sheet: &[u8], out: &mut [u8]) -> usize {
+pub fn bench_wave(sheet: &[u8], out: &mut [u8]) -> usize {
     match wave::wave(sheet, out) {
         Counted::Count(n) => n,
         Counted::Refused(_) => 0,
