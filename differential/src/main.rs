@@ -44,16 +44,15 @@ fn finds_faults(part: &str) -> bool {
     }
 }
 
-/// The comparison that the gate makes: all of it, or the part of it that QUICK_SHARE says, so that emulated programs need no longer.
+/// The comparison that the gate makes.
 fn quick(part: &str) -> Tally {
     let seed = 7;
-    let share = number(std::env::var("QUICK_SHARE").ok().as_ref()).unwrap_or(1).max(1);
     match part {
-        "domain" => domain::compare(5_000_000 / share, seed),
-        "board" => board::compare(100_000 / share, 10_000 / share, seed),
-        "sparse" => sparse::compare(400_000 / share, seed),
-        "hand" => hand::compare(1_000_000 / share, 20_000 / share, seed),
-        "wave" => wave::compare(10_000 / share, 5, 8, seed),
+        "domain" => domain::compare(5_000_000, seed),
+        "board" => board::compare(100_000, 10_000, seed),
+        "sparse" => sparse::compare(400_000, seed),
+        "hand" => hand::compare(1_000_000, 20_000, seed),
+        "wave" => wave::compare(10_000, 5, 8, seed),
         _ => usage(),
     }
 }

@@ -1,6 +1,5 @@
 //! Our side: the proved calls, linked into this process or behind a pipe.
 
-use std::ffi::OsString;
 use std::io::{Read, Write};
 use std::process::{Child, Command};
 
@@ -24,15 +23,10 @@ pub enum Ours {
     Pipe(Child),
 }
 
-/// A proved program in the folder PROBE_BIN, behind what PROBE_RUN names to run it, a word to a line.
+/// A proved program in the folder PROBE_BIN.
 pub fn program(name: &str) -> Command {
     let folder = std::env::var_os("PROBE_BIN").expect("PROBE_BIN names the folder of the programs");
-    let runs = std::env::var("PROBE_RUN").unwrap_or_default();
-    let mut words: Vec<OsString> = runs.lines().map(Into::into).collect();
-    words.push(std::path::Path::new(&folder).join(name).into());
-    let mut command = Command::new(&words[0]);
-    command.args(&words[1..]);
-    command
+    Command::new(std::path::Path::new(&folder).join(name))
 }
 
 /// How many bytes stand before and past those that a linked call is lent, and what they hold.
