@@ -5,26 +5,29 @@
 // comparison with the Rust (differential/run) reaches the calls through it too.
 #![tactic(auto)]
 
-ghost use Rattle.std.specs.Prelude.{◌≡◌, length};
+use std::io;
+use std::io::{ErrorKind, Read, Write};
 
 const FRAME: usize = 16384;
 
-fn frame() -> [u8; 16384]
-    ensures { 16384 ≡ length result }
-{
-    [0u8; 16384]
-}
+// What the answers to a frame have room in.
+const ROOM: usize = 65536;
 
-fn main() {
-    let mut script = frame();
-    let mut out = io::large_buffer();
-    let mut turn: u64 = 0;
-    while turn < 18446744073709551615 {
-        if io::read_full(0, &mut script) < FRAME {
-            return;
+fn main(rt: HostRuntime) -> io::Result<()> {
+    let mut input = rt.stdin();
+    let mut output = rt.stdout();
+    let mut script = vec![in rt.alloc(); 0u8; FRAME]?;
+    let mut out = vec![in rt.alloc(); 0u8; ROOM]?;
+    for _ in 0..u64::MAX {
+        if let Err(e) = input.read_exact(&mut script) {
+            return match e.kind() {
+                ErrorKind::UnexpectedEof => Ok(()),
+                _ => Err(e),
+            };
         }
         let n = board_probe::probe_board(&script, &mut out);
-        io::write_all(1, &out[..n]);
-        turn += 1;
+        output.write_all(&out[..n])?;
+        output.flush()?;
     }
+    Ok(())
 }

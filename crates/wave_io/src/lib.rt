@@ -1,25 +1,51 @@
 // Sheets read from standard input or from files, and their boards written to standard output: what the wave programs share.
 //
-// print_input, print_argument
+// print_input, print_argument, has_argument
 //
-// All that matters is in `wave`. A board is written whole, once all of it is known.
+// All that matters is in `wave`. A board is written whole, once all of it is known. What can't be read or written is told by one line on
+// standard error, under its name; no board of it is written.
 #![tactic(auto)]
 
-ghost use Rattle.std.specs.Prelude.{◌≡◌, length};
-ghost use Rattle.io.specs.Counts.{IsPrefixLen};
+ghost use Rattle.std.specs.Prelude.{◌≡◌, ◌≤◌, length, take, IfOk, IfErr, IfSome, OnOk};
+ghost use Rattle.std.specs.Io.KnownBytes.{Appends};
+ghost use Rattle.wave_print.specs.Print.{most};
+ghost use Rattle.wave.specs.Text.{wave_text};
+ghost use Rattle.wave_io.specs.Board.{IsPrefixLen, sheet_of, board_of};
+ghost use Rattle.wave_io.specs.Failures.{OnRead};
 
 use domain::Counted;
+use std::alloc::Global;
+use std::env::FillError;
+use std::fs::File;
+use std::io;
+use std::io::{Error, ErrorKind, Read, Write};
+use std::rt::{Env, Files};
 
 // One byte more than a sheet can have, so that a longer one is seen to be too long.
-fn room() -> [u8; 32769]
-    ensures { 32769 ≡ length result }
+const ROOM: u64 = 32769;
+
+// The longest path that can be opened.
+const PATH: usize = 4096;
+
+// Why no board was written, or not all of it.
+#[derive(Drop)]
+enum Failed {
+    Read(Error),
+    Write(Error),
+}
+
+fn read_sheet<R: Read + Drop>(alloc: Global, input: R) -> io::Result<Vec<u8>>
+    ensures { IfOk result (λ sheet. IfSome (R.remaining input) (λ xs. sheet.items ≡ sheet_of xs)) }
 {
-    [0; 32769]
+    let mut sheet = Vec::new(alloc);
+    input.take(ROOM).read_to_end(&mut sheet)?;
+    Ok(sheet)
 }
 
 // How many bytes of out hold the text. With MOST bytes lent the wave is never refused.
 fn written(sheet: &[u8], out: &mut [u8]) -> usize
-    ensures { IsPrefixLen result out.new }
+    ensures within { IsPrefixLen result out.new }
+    ensures text { most ≤ length out.old → take result out.new ≡ wave_text sheet.now }
 {
     match wave::wave(sheet, out) {
         Counted::Count(n) => n,
@@ -27,40 +53,149 @@ fn written(sheet: &[u8], out: &mut [u8]) -> usize
     }
 }
 
-// A read that fails is told by a line under the input's name, and no board is written.
-fn print_from(fd: i32, name: &[u8]) {
-    let mut text = room();
-    let n = io::read_full(fd, &mut text);
-    // `read_full` stops alike at the end and at a read that fails: one more read tells which it was
-    let mut past = [0u8; 1];
-    if libc::read(fd, &mut past) < 0 {
-        os::fail(name);
-        return;
-    }
-    let mut out = io::buffer();
-    let k = written(&text[..n], &mut out);
-    if !io::write_all(libc::STDOUT_FILENO, &out[..k]) {
-        os::fail(b"standard output");
+// Reads a sheet and writes its board.
+fn answer<R: Read + Drop, W: Write>(alloc: Global, input: R, output: &mut W) -> Result<(), Failed>
+    ensures board { OnOk result (IfSome (R.remaining input)
+        (λ xs. Appends (W.contents output.old) (W.contents output.new) (board_of xs))) }
+    ensures unread { IfErr result (λ why. OnRead why (output.new ≡ output.old)) }
+{
+    let sheet = match read_sheet(alloc, input) {
+        Ok(sheet) => sheet,
+        Err(e) => return Err(Failed::Read(e)),
+    };
+    let mut out = [0u8; wave::MOST];
+    let n = written(&sheet, &mut out);
+    match output.write_all(&out[..n]) {
+        Ok(()) => Ok(()),
+        Err(e) => Err(Failed::Write(e)),
     }
 }
 
-pub fn print_input() {
-    print_from(libc::STDIN_FILENO, b"standard input");
+// What is told on standard error of what failed.
+fn tell(rt: &impl Eprint, name: &str, error: Error) -> io::Result<()> {
+    eprintln!(rt; "{name}: {error}")
+}
+
+fn print_from<R: Read + Drop>(
+    rt: &(impl AllocGlobal + Print + Eprint),
+    input: R,
+    name: &str,
+) -> io::Result<()> {
+    match answer(rt.alloc(), input, &mut io::writer(rt)) {
+        Ok(()) => Ok(()),
+        Err(Failed::Read(e)) => tell(rt, name, e),
+        Err(Failed::Write(e)) => tell(rt, "standard output", e),
+    }
+}
+
+pub fn print_input(rt: &(impl Input + AllocGlobal + Print + Eprint)) -> io::Result<()> {
+    print_from(rt, rt.reader(), "standard input")
+}
+
+// The sheet in the file of this path.
+fn print_file(rt: &(impl Files + AllocGlobal + Print + Eprint), path: &str) -> io::Result<()> {
+    match File::open(rt, path) {
+        Ok(file) => print_from(rt, file, path),
+        Err(e) => tell(rt, path, e),
+    }
 }
 
 // The sheet in the file that an argument names.
-pub fn print_argument(i: usize) {
-    let mut path = io::buffer();
-    let n = os::arg(i, &mut path);
-    if os::errno() != 0 {
-        os::fail(b"the sheet's name");
-        return;
+pub fn print_argument(
+    rt: &(impl Env + Files + AllocGlobal + Print + Eprint),
+    i: usize,
+) -> io::Result<()> {
+    let mut path = [0u8; PATH];
+    if let Ok(n) = rt.arg(i, &mut path) {
+        if let Ok(path) = std::str::from_utf8(&path[..n]) {
+            return print_file(rt, path);
+        }
     }
-    let fd = os::open_read(&path[..n]);
-    if fd < 0 {
-        os::fail(&path[..n]);
-        return;
+    tell(
+        rt,
+        "the sheet's name",
+        Error::from(ErrorKind::InvalidFilename),
+    )
+}
+
+// Whether the program was started with an argument of this number.
+pub fn has_argument(rt: &impl Env, i: usize) -> bool {
+    !matches!(rt.arg(i, &mut []), Err(FillError::NotPresent))
+}
+
+#[cfg(test)]
+mod tests {
+    use super::{Failed, answer};
+    use std::io;
+    use std::io::{Error, ErrorKind, Read, Write};
+
+    // Bytes that end in a read that fails.
+    #[derive(Drop)]
+    struct Cut<'a>(&'a [u8]);
+
+    impl Read for Cut<'_> {
+        fn read(&mut self, buf: &mut [u8]) -> io::Result<usize> {
+            match self.0.read(buf)? {
+                0 => Err(Error::from(ErrorKind::BrokenPipe)),
+                n => Ok(n),
+            }
+        }
     }
-    print_from(fd, &path[..n]);
-    libc::close(fd);
+
+    // A writer that takes few bytes at a time, and fails once it has taken enough.
+    #[derive(Drop)]
+    struct Full {
+        taken: usize,
+        most: usize,
+    }
+
+    impl Write for Full {
+        fn write(&mut self, buf: &[u8]) -> io::Result<usize> {
+            if self.most <= self.taken {
+                return Err(Error::from(ErrorKind::StorageFull));
+            }
+            let n = buf.len().min(3).min(self.most - self.taken);
+            self.taken += n;
+            Ok(n)
+        }
+
+        fn flush(&mut self) -> io::Result<()> {
+            Ok(())
+        }
+    }
+
+    const SHEET: &[u8] =
+        b"4\n20 1 3\n21 1 3\n22 1 2\n23 7 7\n2\n1 20 3\n2 21 2\n2\n3 20 21 22\n2 20 99\n";
+
+    const BOARD: &[u8] = b"D 20 1 1 1\nD 21 1 2 2\nD 22 0 - -\nD 23 1 7 7\nL 0 1 0\nL 1 R 6 1\n";
+
+    #[test]
+    fn writes_the_board(rt: HostRuntime) {
+        let mut out = Vec::new(rt.alloc());
+        assert!(rt; answer(rt.alloc(), SHEET, &mut out).is_ok());
+        assert!(rt; out.as_slice() == BOARD);
+    }
+
+    #[test]
+    fn writes_nothing_of_a_sheet_that_breaks_off(rt: HostRuntime) {
+        let mut out = Vec::new(rt.alloc());
+        let answered = answer(rt.alloc(), Cut(SHEET), &mut out);
+        assert!(rt; matches!(answered, Err(Failed::Read(_))));
+        assert!(rt; out.is_empty());
+    }
+
+    #[test]
+    fn tells_a_write_that_fails(rt: HostRuntime) {
+        for most in [0, 1, BOARD.len() - 1] {
+            let mut output = Full { taken: 0, most };
+            let answered = answer(rt.alloc(), SHEET, &mut output);
+            assert!(rt; matches!(answered, Err(Failed::Write(_))));
+            assert_eq!(rt; output.taken, most);
+        }
+        let mut output = Full {
+            taken: 0,
+            most: BOARD.len(),
+        };
+        assert!(rt; answer(rt.alloc(), SHEET, &mut output).is_ok());
+    }
 }

@@ -1,10 +1,12 @@
 // The wave program: a sheet from standard input, or from the file that the first argument names; its board to standard output.
 #![tactic(auto)]
 
-fn main() {
-    if os::arg_count() < 2 {
-        wave_io::print_input();
-        return;
+use std::io;
+
+fn main(rt: HostRuntime) -> io::Result<()> {
+    if wave_io::has_argument(&rt, 1) {
+        wave_io::print_argument(&rt, 1)
+    } else {
+        wave_io::print_input(&rt)
     }
-    wave_io::print_argument(1);
 }

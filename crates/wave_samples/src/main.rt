@@ -1,11 +1,14 @@
 // The sample sheets in turn, each in the file that an argument names: the gate runs it over all of sheets/.
 #![tactic(auto)]
 
-fn main() {
-    let n = os::arg_count();
-    let mut i = 1;
-    while i < n {
-        wave_io::print_argument(i);
-        i += 1;
+use std::io;
+
+fn main(rt: HostRuntime) -> io::Result<()> {
+    for i in 1..usize::MAX {
+        if !wave_io::has_argument(&rt, i) {
+            break;
+        }
+        wave_io::print_argument(&rt, i)?;
     }
+    Ok(())
 }
