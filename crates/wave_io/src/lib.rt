@@ -3,7 +3,7 @@
 // print_input, print_argument, has_argument
 //
 // All that matters is in `wave`. A board is written whole, once all of it is known. What can't be read or written is told by one line on
-// standard error, under its name; no board of it is written.
+// standard error, under its name; no board of it is written. An error that they return is a lack of memory, or that the line can't be written.
 #![tactic(auto)]
 
 ghost use Rattle.std.specs.Prelude.{◌≡◌, ◌≤◌, length, take, IfOk, IfErr, IfSome, OnOk};
@@ -83,6 +83,7 @@ fn print_from<R: Read + Drop>(
 ) -> io::Result<()> {
     match answer(rt.alloc(), input, &mut io::writer(rt)) {
         Ok(()) => Ok(()),
+        Err(Failed::Read(e)) if e.kind() == ErrorKind::OutOfMemory => Err(e),
         Err(Failed::Read(e)) => tell(rt, name, e),
         Err(Failed::Write(e)) => tell(rt, "standard output", e),
     }
