@@ -62,6 +62,6 @@ pub fn wave(sheet: &[u8], out: &mut [u8]) -> Counted
     if out.len() < n {
         return Counted::Refused(Refusal::NoRoom);
     }
-    bytes::copy(&text[..n], out);
+    out[..n].copy_from_slice(&text[..n]);
     Counted::Count(n)
 }

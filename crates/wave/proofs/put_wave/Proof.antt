@@ -1,10 +1,6 @@
 -- `wave::put_wave` meets its contract: what was read is told, a bad sheet by its refusal, a good one by what its run comes to.
-use mathlib.Core.Path.{◌≡◌, sym, ap, ap₂, ◌∙◌, subst}
-use mathlib.Core.List.{List}
-use Prim.Native.Nat.{ℕ, ◌≤◌}
-use native.Mathlib.Omega.{arith}
-use borrow.Author.Rules.{rules}
-use lib.ListN.{length}
+use Rattle.std.specs.Prelude.{◌≡◌, List, ℕ, ◌≤◌, length}
+use Rattle.std.proofs.Common.{sym, ap, ap₂, ◌∙◌, subst, arith, rules}
 use Rattle.decimal.specs.Put.{put_of}
 use Rattle.rules.specs.Refusals.{number_of, place_of}
 use Rattle.sheet_form.specs.Sheet.{Sheet}
@@ -23,27 +19,20 @@ use Rattle.wave.proofs.Theorems.{text-few, ran-text, ran-fits}
 use Rattle.wave.proofs.put_wave.Statement.{statement}
 use Rattle.wave.proofs.put_wave.Tie as tie
 
-abbrev given : tie.After-read-sheet → List ℕ
-given c = c.before.before.before.args.sheet.now
+abbrev given : tie.After-read_sheet-read → List ℕ
+given c = c.args.sheet.now
 
 -- ---- a bad sheet
-
 bad-text : (s : List ℕ) (why : Fault) (p : ℕ) → read_sheet s ≡ fault why p → wave_text s ≡ refused_text (number_of (refusal_of why p)) (place_of (refusal_of why p))
 unfolding wave_text told_of
 bad-text s why p e = ap told_of e
 
-bad : (c : tie.After-place) → let r = c.before.before.before.before.before.before in
-    refused_text c.before.number.result c.place.result ≡ wave_text (given r)
+bad : (c : tie.After-place) → refused_text c.number.result c.place.result ≡ wave_text (given c.before.before.before.before)
 bad c =
-    let f = c.before.before in
-    let e = f.before.before in
-    let r = e.before.before in
-    let g = e.end.given in
-    ap₂ refused_text (c.before.number.ensures ∙ ap number_of f.refusal.ensures) (c.place.ensures ∙ ap place_of f.refusal.ensures)
-    ∙ sym (bad-text (given r) g.0.0 g.0.1.0 (read-bad (read_sheet (given r)) r.read-sheet.result r.read-sheet.ensures g.0.0 g.0.1.0 g.1))
+    ap₂ refused_text (c.number.ensures ∙ ap number_of c.refusal-r.ensures) (c.place.ensures ∙ ap place_of c.refusal-r.ensures)
+    ∙ sym (bad-text (given c.before.before.before.before) c.in-Bad.why c.in-Bad.place (read-bad (read_sheet (given c.before.before.before.before)) c.read_sheet-read.result c.read_sheet-read.ensures c.in-Bad.why c.in-Bad.place c.in-Bad.is))
 
 -- ---- a good one
-
 good-text : (s : List ℕ) (sh : Sheet) (e : ℕ) → read_sheet s ≡ got sh e → wave_text s ≡ told_of (got sh e)
 unfolding wave_text
 good-text s sh e q = ap told_of q
@@ -64,24 +53,20 @@ runs_of s sh e q {r} h =
       lists = subst (λ (x : Ran). x.ln ≤ 16) (sym h) f.1;
     }
 
-runs : (c : tie.After-run) → Runs c.run.result (given c.before.before.before.before)
+runs : (c : tie.After-run) → Runs c.run.result (given c.before.before.before)
 runs c =
-    let t = c.before.before in
-    let r = t.before.before in
-    let g = t.enum_told.given in
-    let k = read_at (read_sheet (given r)) r.read-sheet.result r.read-sheet.ensures g.0.0 g.1 in
-    runs_of (given r) k.0 g.0.0 k.1
-    (c.run.ensures ∙ ap (λ (p : Parsed). ran_of (sheet_of p)) k.2 ∙ ap ran_of (sheet-back k.0 (accepted-few (given r) k.0 g.0.0 k.1)))
+    let k = read_at (read_sheet (given c.before.before.before)) c.read_sheet-read.result c.read_sheet-read.ensures c.in-At.field-0 c.in-At.is in
+    runs_of (given c.before.before.before) k.0 c.in-At.field-0 k.1
+    (c.run.ensures ∙ ap (λ (p : Parsed). ran_of (sheet_of p)) k.2 ∙ ap ran_of (sheet-back k.0 (accepted-few (given c.before.before.before) k.0 c.in-At.field-0 k.1)))
 
 -- ---- the needs
-
-read-sheet-requires : tie.Need-read-sheet-requires
+read-sheet-requires : tie.Need-read_sheet-read-requires
 read-sheet-requires c κs = search rules
 
-enum-known-end : tie.Need-enum-known-end
+enum-known-end : tie.Need-enum_known-end
 enum-known-end c = search rules
 
-refusal-requires : tie.Need-refusal-requires
+refusal-requires : tie.Need-refusal-r-requires
 refusal-requires c κs = search rules
 
 number-requires : tie.Need-number-requires
@@ -90,43 +75,39 @@ number-requires c κs = search rules
 place-requires : tie.Need-place-requires
 place-requires c κs = search rules
 
-put-refusal-requires : tie.Need-put-refusal-requires
+put-refusal-requires : tie.Need-put_refusal-requires
 put-refusal-requires c κs =
-    let r = c.before.before.before.before.before.before.before in
-    omega (arith, r.before.before.before.requires, text-few (given r), ap length (bad c.before))
+    omega (arith, c.requires, text-few (given c.before.before.before.before.before), ap length (bad c.before))
 
-enum_told : tie.Need-enum-told
+enum_told : tie.Need-enum_told-1
 enum_told c = search rules
 
 run-requires : tie.Need-run-requires
 run-requires c κs = search rules
 
-put-ran-requires : tie.Need-put-ran-requires
+put-ran-requires : tie.Need-put_ran-requires
 put-ran-requires c κs =
     let k = runs c.before in
-    let r = c.before.before.before.before.before in
-    (k.rows, k.lists, omega (arith, r.before.before.before.requires, text-few (given r), ap length k.text))
+    (k.rows, k.lists, omega (arith, c.requires, text-few (given c.before.before.before.before), ap length k.text))
 
-same_length : tie.Need-same-length
+same_length : tie.Need-shape_of-out-in-Bad
 same_length c = search rules
 
-returns : tie.Need-returns
+returns : tie.Need-returns-in-Bad
 returns c =
-    let p = c.before.before in
-    let b = bad p.before.before in
-    p.put-refusal.ensures ∙ ap (λ (t : List ℕ). put_of t p.before.before.before.before.before.before.before.before.before.before.before.args.out.now 0) b
+    let b = bad c.before.before.before.before in
+    c.put_refusal.ensures ∙ ap (λ (t : List ℕ). put_of t c.args.out.now 0) b
 
-same-length-2 : tie.Need-same-length-2
+same-length-2 : tie.Need-shape_of-out-in-At
 same-length-2 c = search rules
 
-returns-2 : tie.Need-returns-2
+returns-2 : tie.Need-returns-in-At
 returns-2 c =
-    let p = c.before.before in
-    let k = runs p.before.before in
-    p.put-ran.ensures ∙ ap (λ (t : List ℕ). put_of t p.before.before.before.before.before.before.before.before.before.args.out.now 0) k.text
+    let k = runs c.before.before.before.before in
+    c.put_ran.ensures ∙ ap (λ (t : List ℕ). put_of t c.args.out.now 0) k.text
 
-pub put-wave-spec : {M : Type 1} → statement M
-put-wave-spec =
+pub put_wave_spec : {M : Type 1} → statement M
+put_wave_spec =
     tie.close
     (tie.spec
     read-sheet-requires
