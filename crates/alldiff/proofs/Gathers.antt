@@ -1,5 +1,5 @@
 -- The values that are gathered: each once, and the union's. Assumes nothing.
-use Rattle.std.specs.Prelude.{◌≡◌, refl, Bool, true, false, not, ◌||◌, cond, List, [], ◌∷◌, ◌++◌, map, ◌⊎◌, ℕ, suc, ◌+◌, ◌^◌, ◌≤◌, ◌<◌, T, ℤ, pos, ◌+ℤ◌, length, get_or, drop}
+use Rattle.std.specs.Prelude.{◌≡◌, refl, Bool, true, false, not, ◌||◌, cond, List, [], ◌∷◌, ◌++◌, map, ◌⊎◌, ℕ, suc, ◌^◌, ◌≤◌, ◌<◌, T, ℤ, pos, ◌+ℤ◌, length, get_or, drop}
 use Rattle.std.proofs.Common.{sym, ap, ap₂, ◌∙◌, subst, true≢false, inl, inr, ⊎_elim, le_refl, le_trans, arith, T_not, length-append, drop_of_length-le, drop-cons}
 use lib.Dec.{not_T}
 use Rattle.mask.specs.Bit.{Lowest, bit_minus}

@@ -1,11 +1,11 @@
 -- Whether a subset is tight, by the values that are gathered, and what it then does. Assumes nothing.
-use Rattle.std.specs.Prelude.{◌≡◌, refl, Bool, true, false, not, List, [], ◌∷◌, ℕ, zero, suc, ◌/◌, ◌%◌, ◌^◌, ◌<◌, ◌≤◌, eqb, ℤ, length, take}
+use Rattle.std.specs.Prelude.{◌≡◌, refl, Bool, true, false, List, [], ◌∷◌, ℕ, zero, suc, ◌/◌, ◌%◌, ◌^◌, ◌<◌, ◌≤◌, eqb, ℤ, length, take}
 use Rattle.std.specs.Int.Count.{ones, ones_step}
 use Rattle.std.proofs.Common.{sym, ap, ◌∙◌, pow-suc, arith, length-take-le, eqb-true, eq-eqb, ne_eqb}
 use Rattle.std.proofs.Math.Decide.{dec_le}
 use Rattle.std.proofs.lemmas.Bool.{eqb-false}
 use Rattle.mask.specs.Sets.{ones_none}
-use Rattle.rules.specs.Sets.{Chutes, has, strike, union}
+use Rattle.rules.specs.Sets.{Chutes, has, union}
 use Rattle.rules.specs.Pass.{Places, pick, still, sweep, tight, present}
 use Rattle.rules.specs.Table.{bits}
 use Rattle.sweep.proofs.Values.{strike-same}

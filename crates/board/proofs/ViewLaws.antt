@@ -12,7 +12,7 @@ use Rattle.rules.specs.Board as rules
 use Rattle.rules.proofs.RowLaws.{domain-unknown}
 use Rattle.saved.specs.Saved.{fit_under, saved_at}
 use Rattle.board.specs.Rows.{row0, row_at, id_at, domain_at, seat, with_domain, with_rows}
-use Rattle.board.specs.Well.{differ, well_board}
+use Rattle.board.specs.Well.{well_board}
 use Rattle.board.specs.Obeys.{Alike}
 use Rattle.board.specs.View.{rows_from, rows_of, held_at, saved_in, marks_of, view}
 use Rattle.board.specs.declared.Row.{Row}

@@ -7,7 +7,7 @@ use Rattle.rules.specs.Sets.{Chutes, some, every}
 use Rattle.rules.specs.declared.Refusal.TheVariants.{Broken, Empty}
 use Rattle.rules.specs.declared.Variable.{Variable}
 use Rattle.domain.specs.Set.{set_of, well}
-use Rattle.domain.specs.Calls.{invalid, only_of, size_of, is_fixed_of, fixed_value_of, is_empty_of, min_of, max_of}
+use Rattle.domain.specs.Calls.{invalid, size_of, is_fixed_of, fixed_value_of, is_empty_of, min_of, max_of}
 use Rattle.domain.specs.declared.BitDomain.{BitDomain}
 use Rattle.domain.specs.declared.Counted.TheVariants as counted
 use Rattle.domain.specs.declared.Found.TheVariants as found

@@ -1,5 +1,5 @@
 -- The ways through a propagation: a board that isn't well formed, a list that is refused, and the pass over the listed domains.
-use Rattle.std.specs.Prelude.{◌≡◌, refl, Bool, true, false, ◌||◌, List, [], ◌∷◌, map, ℕ, zero, suc, ◌<◌, ◌≤◌, ℤ, length, get_or}
+use Rattle.std.specs.Prelude.{◌≡◌, refl, Bool, true, false, ◌||◌, List, [], map, ℕ, ◌<◌, ◌≤◌, ℤ, length, get_or}
 use Rattle.std.proofs.Common.{sym, ap, ◌∙◌, subst, arith}
 use Rattle.std.proofs.lemmas.List.{length-map}
 use lib.Seq.{ext_get_or}

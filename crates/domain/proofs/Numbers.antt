@@ -1,5 +1,5 @@
 -- Which number the mask has after a change: each of these is a change of bits on the left and of the set on the right. Assumes nothing.
-use Rattle.std.specs.Prelude.{◌≡◌, refl, true, false, not, ◌||◌, [], ◌⊎◌, ℕ, ◌+◌, ◌-◌, ◌^◌, ◌<◌, T, ltb, ℤ, pos, ◌+ℤ◌, ◌-ℤ◌}
+use Rattle.std.specs.Prelude.{◌≡◌, refl, true, false, not, ◌||◌, [], ℕ, ◌-◌, ◌^◌, ◌<◌, T, ltb, ℤ, pos, ◌+ℤ◌, ◌-ℤ◌}
 use Rattle.std.specs.Int.Bits.{bit_and, bit_or}
 use Rattle.std.specs.Int.Signed.{le_z}
 use Rattle.std.proofs.Common.{sym, ap, ◌∙◌, true≢false, inl, inr, ⊎_elim, T_not, ltb-true, lt-ltb}

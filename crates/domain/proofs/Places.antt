@@ -1,5 +1,5 @@
 -- Where the values of a well-formed domain stand, and when a domain with another mask is `holding` some set. Assumes nothing.
-use Rattle.std.specs.Prelude.{◌≡◌, refl, Bool, true, false, ◌&&◌, cond, ℕ, ◌+◌, ◌-◌, ◌^◌, ◌≤◌, ◌<◌, T, eqb, leb, ltb, pos, ◌+ℤ◌}
+use Rattle.std.specs.Prelude.{◌≡◌, refl, Bool, true, false, ◌&&◌, cond, ℕ, ◌^◌, ◌≤◌, ◌<◌, T, eqb, leb, ltb, pos, ◌+ℤ◌}
 use Rattle.std.specs.Int.Signed.{le_z}
 use Rattle.std.proofs.Common.{sym, ap, ◌∙◌, subst, true≢false, arith, eqb-true, leb-true, ltb-true, ltb-false, lt-ltb, eq-eqb, ne_eqb}
 use Rattle.mask.specs.Bit.{bit}

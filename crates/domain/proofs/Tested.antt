@@ -1,9 +1,9 @@
 -- When a domain is well formed, by the distance from its universe's smallest value to the greatest: where there is a universe the mask decides, else the bounds do.
 -- Assumes nothing.
-use Rattle.std.specs.Prelude.{◌≡◌, refl, Bool, true, false, ◌&&◌, ℕ, suc, ◌+◌, ◌^◌, ◌<◌, eqb, leb, ltb, ℤ, pos, negsuc, ◌-ℤ◌}
+use Rattle.std.specs.Prelude.{◌≡◌, true, false, ◌&&◌, ℕ, ◌+◌, eqb, leb, ltb, ℤ, pos, negsuc, ◌-ℤ◌}
 use Rattle.std.specs.Int.Signed.{le_z}
 use Rattle.std.proofs.Common.{sym, ap, ◌∙◌, true≢false, arith, eq-eqb, ne_eqb}
-use Rattle.std.proofs.Math.Dec.{leb-zero, leb-suc-suc}
+use Rattle.std.proofs.Math.Dec.{leb-zero}
 use Rattle.mask.specs.Val.{val, offsets}
 use Rattle.mask.specs.Ends.{ends_by}
 use Rattle.offset.specs.Universe.{span-at, span_none}

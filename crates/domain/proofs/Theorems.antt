@@ -1,5 +1,5 @@
 -- What the calls do to the set that a domain holds, in the words of the rules. Assumes nothing.
-use Rattle.std.specs.Prelude.{◌≡◌, refl, Bool, true, false, not, ◌||◌, cond, List, [], ◌∷◌, map, ℕ, zero, suc, ◌+◌, ◌-◌, ◌^◌, ◌≤◌, ◌<◌, T, leb, ℤ, pos, ◌+ℤ◌, ◌-ℤ◌}
+use Rattle.std.specs.Prelude.{◌≡◌, refl, Bool, true, false, not, ◌||◌, cond, List, [], ◌∷◌, map, ℕ, zero, suc, ◌^◌, ◌≤◌, ◌<◌, T, leb, ℤ, pos, ◌+ℤ◌, ◌-ℤ◌}
 use Rattle.std.specs.Int.Signed.{lt_z}
 use Rattle.std.proofs.Common.{sym, ap, ◌∙◌, subst, ⊎_elim, lt_of_lt_of_le, arith, pow_mono, pow_pos, ne_eqb, lt-ltb, leb-true}
 use Rattle.mask.specs.Val.{val, offsets, mask_of, Fit, mask-fit, val-mask, mask-val}

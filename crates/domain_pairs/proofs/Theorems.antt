@@ -1,6 +1,6 @@
 -- What the calls mean for the sets that the domains hold, that their results are well formed, and that what was saved comes back.
 -- Assumes nothing.
-use Rattle.std.specs.Prelude.{◌≡◌, refl, Bool, true, false, not, ◌&&◌, ◌||◌, cond, ◌⊎◌, ◌↔◌, ℕ, ◌^◌, ◌<◌, T, ℤ}
+use Rattle.std.specs.Prelude.{◌≡◌, refl, Bool, true, false, not, ◌&&◌, ◌||◌, cond, ◌↔◌, ℕ, ◌^◌, ◌<◌, T, ℤ}
 use Rattle.std.specs.Int.Bits.{bit_and, bit_or}
 use Rattle.std.proofs.Common.{sym, ap, ◌∙◌, subst, ⊎_elim, arith, ltb→lt, eqb-true, lt-ltb}
 use Rattle.mask.specs.Val.{val, mask_of, Fit, mask-val}

@@ -1,5 +1,5 @@
 -- The first of some values, as a loop finds it, and that it stands before all others. Assumes nothing.
-use Rattle.std.specs.Prelude.{◌≡◌, refl, Bool, true, false, not, cond, List, [], ◌∷◌, ◌⊎◌, ℕ, ◌+◌, ◌≤◌, ◌<◌, T, ℤ, pos, length, get_or, drop}
+use Rattle.std.specs.Prelude.{◌≡◌, refl, Bool, true, false, cond, List, [], ◌∷◌, ◌⊎◌, ℕ, ◌+◌, ◌≤◌, ◌<◌, T, ℤ, pos, length, get_or, drop}
 use Rattle.std.specs.Int.Signed.{lt_z, le_z}
 use Rattle.std.specs.Int.{w32}
 use Rattle.std.proofs.Common.{subst, sym, ap, ◌∙◌, inl, inr, ⊎_elim, add-one, arith, drop_of_length-le, drop-cons, SFits, to_z, of_z, to_z-of_z}

@@ -1,4 +1,4 @@
-// The forms proved by hand behind a pipe: frames of 8,192 bytes come in, and the answers to each go out before the next is read. It
+// The forms through a reference behind a pipe: frames of 8,192 bytes come in, and the answers to each go out before the next is read. It
 // ends with the input.
 //
 // The comparison with the Rust (differential/run) reaches the calls through it.

@@ -1,4 +1,4 @@
-// The forms with a proof by hand behind one function, for comparisons with the Rust: removal through a reference, and a batch
+// The forms through a reference behind one function, for comparisons with the Rust: removal through a reference, and a batch
 // by value and lent, with its first closing alone through a reference. A frame is one or the other. `hand_probe_c` exports it.
 //
 // probe_hand: runs a frame, bytes in, answers and states as bytes out (differential/FORMAT.md says which)

@@ -1,6 +1,6 @@
 -- The laws of places in a universe of integers: values compare as their offsets do, and what stands in a universe is what has a place there.
 -- Assumes nothing.
-use Rattle.std.specs.Prelude.{◌≡◌, refl, Bool, true, false, not, cond, ◌&&◌, ◌↔◌, ℕ, zero, suc, ◌+◌, ◌-◌, ◌≤◌, ◌<◌, ◌^◌, ℤ, pos, negsuc, ◌+ℤ◌, ◌-ℤ◌, nat_abs, T, ltb, leb}
+use Rattle.std.specs.Prelude.{◌≡◌, refl, Bool, true, false, not, cond, ◌&&◌, ◌↔◌, ℕ, zero, suc, ◌-◌, ◌≤◌, ◌<◌, ◌^◌, ℤ, pos, negsuc, ◌+ℤ◌, ◌-ℤ◌, nat_abs, T, ltb, leb}
 use Rattle.std.proofs.Common.{sym, ap, ◌∙◌, subst, zero-le, le_refl, add-one, arith, SFits, ltb-true, ltb-false, lt-ltb, le-ltb, le-leb}
 use Rattle.std.proofs.Math.IntN.{suc_ℤ, pred_ℤ, suc-pred, suc_ℤ-+ℤ, pred_ℤ-+ℤ, +ℤ_idl, +ℤ_idr, +ℤ_one, +ℤ_comm, -ℤ-+ℤ_cancel, +ℤ-neg_ℤ_cancel}
 use Rattle.std.proofs.Math.Dec.{leb-zero, leb-suc-suc}

@@ -1,6 +1,6 @@
 -- An i32 widened to an i64, and differences and sums taken there: none is lost, and none wraps.
 -- A signed local holds bits, so what the machine reads is `to_z w (of_z w z)`: these laws take that off. Assumes nothing.
-use Rattle.std.specs.Prelude.{◌≡◌, Bool, true, false, cond, ℕ, zero, suc, ◌+◌, ◌-◌, ◌≤◌, ◌<◌, ◌^◌, ℤ, pos, negsuc, ◌+ℤ◌, ◌-ℤ◌, neg_ℤ, nat_abs, T, ltb}
+use Rattle.std.specs.Prelude.{◌≡◌, Bool, true, false, cond, ℕ, zero, suc, ◌+◌, ◌-◌, ◌≤◌, ◌^◌, ℤ, pos, negsuc, ◌+ℤ◌, ◌-ℤ◌, neg_ℤ, nat_abs, T, ltb}
 use Rattle.std.proofs.Common.{sym, ap, ◌∙◌, subst, arith, Fits, SFits, to_z, of_z, to_z-of_z}
 use Rattle.std.specs.Int.Signed.{mag, lt_z, non_neg}
 use Rattle.std.specs.Int.{w32, w64}

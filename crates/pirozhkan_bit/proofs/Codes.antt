@@ -27,7 +27,7 @@ use Rattle.reply.proofs.LentLaws as lent
 use Rattle.reply.proofs.RoomLaws.{refused-of, broken-of, few-held, held_fits, only_of_lem}
 use Rattle.pirozhkan_bit.specs.Layout.{read_of}
 use Rattle.pirozhkan_bit.specs.Lent.{words, lent_to, Reply, through, answered}
-use Rattle.pirozhkan_bit.specs.Calls.{chute, inserting, removing, emptying, closing, whether_held, sizing, fixed_at, smallest, largest}
+use Rattle.pirozhkan_bit.specs.Calls.{inserting, removing, emptying, closing, whether_held, sizing, fixed_at, smallest, largest}
 
 -- ---- what the code of a call tells, if its answer has room
 

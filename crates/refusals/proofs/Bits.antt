@@ -1,5 +1,5 @@
 -- Every call on bit domains is refused as 01's table says, and then hands back what it was given.
-use Rattle.std.specs.Prelude.{◌≡◌, refl, ◌&&◌, [], ◌∷◌, suc, eqb, leb, ltb, length}
+use Rattle.std.specs.Prelude.{◌≡◌, refl, ◌&&◌, [], ◌∷◌, suc, leb, ltb, length}
 use Rattle.std.specs.Int.Signed.{lt_z}
 use Rattle.std.proofs.Common.{sym, ◌∙◌, arith, eqb→eq}
 use Rattle.ends.specs.Ends.{smallest_of, largest_of}

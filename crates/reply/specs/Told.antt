@@ -3,7 +3,7 @@
 use Rattle.std.specs.Prelude.{◌≡◌, refl, Bool, true, false, cond, [], ◌∷◌, ℕ, ◌+◌, ◌-◌, ◌*◌, ◌/◌, ◌%◌, ◌^◌, ◌<◌, eqb, ℤ, negsuc, length, get_or}
 use Rattle.std.specs.Int.{w32}
 use Rattle.std.proofs.Common.{SFits}
-use Rattle.offset.specs.Places.{clip, place_of}
+use Rattle.offset.specs.Places.{clip}
 use Rattle.rules.specs.Board as rules
 use Rattle.rules.specs.Refusals as refusals
 use Rattle.rules.specs.declared.Refusal.{Refusal}

@@ -1,5 +1,5 @@
 -- All dropped but one offset, which is exchanged with cell 0. Assumes nothing.
-use Rattle.std.specs.Prelude.{◌≡◌, refl, Bool, true, false, cond, List, ℕ, ◌-◌, ◌<◌, get_or}
+use Rattle.std.specs.Prelude.{◌≡◌, refl, Bool, true, false, cond, List, ℕ, ◌<◌, get_or}
 use Rattle.std.proofs.Common.{arith}
 use Rattle.order.specs.Order.{swapped}
 use Rattle.order.proofs.Orders.{ind-inj, length-swapped}

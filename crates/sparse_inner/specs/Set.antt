@@ -1,5 +1,5 @@
 -- A sparse set over two lent orderings: which offsets it holds, when it is well formed, and why it is refused otherwise. Assumes nothing.
-use Rattle.std.specs.Prelude.{◌≡◌, Bool, true, cond, ◌&&◌, List, map, ◌++◌, ℕ, ◌-◌, ◌≤◌, ◌<◌, ltb, leb, eqb, ℤ, pos, ◌+ℤ◌, ◌-ℤ◌, length, get_or, take, drop}
+use Rattle.std.specs.Prelude.{◌≡◌, Bool, true, cond, ◌&&◌, List, map, ◌++◌, ℕ, ◌≤◌, ◌<◌, ltb, leb, eqb, ℤ, pos, ◌+ℤ◌, ◌-ℤ◌, length, get_or, take, drop}
 use Rattle.std.specs.Int.Signed.{le_z}
 use Rattle.offset.specs.Places.{place_of}
 use Rattle.order.specs.Order.{Inverse, all_b, inverse_b}

@@ -1,6 +1,6 @@
 -- Each call on a well-formed set, seen through the plain set of held values: it is accepted, it answers and holds what 01 says, and what it leaves is
 -- well formed. Assumes nothing.
-use Rattle.std.specs.Prelude.{◌≡◌, Bool, true, false, not, ◌&&◌, ◌||◌, ◌-◌, ◌≤◌, ℤ, pos, ◌+ℤ◌, ◌-ℤ◌, length, set}
+use Rattle.std.specs.Prelude.{◌≡◌, Bool, true, false, not, ◌&&◌, ◌||◌, ◌≤◌, ℤ, pos, ◌+ℤ◌, ◌-ℤ◌, length}
 use Rattle.std.specs.Int.Signed.{lt_z, le_z}
 use Rattle.std.proofs.Common.{sym, ap, ◌∙◌, le-ltb}
 use Rattle.offset.specs.Places.{cut_of}

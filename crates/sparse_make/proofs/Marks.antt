@@ -1,5 +1,5 @@
 -- Which offsets are among some values, marked one value at a time in the bits of words. Assumes nothing.
-use Rattle.std.specs.Prelude.{◌≡◌, refl, Bool, false, ◌||◌, List, [], ◌∷◌, ℕ, zero, suc, ◌+◌, ◌-◌, ◌/◌, ◌%◌, ◌^◌, ◌≤◌, ◌<◌, max, T, eqb, ℤ, pos, length, get_or, set, drop, ◌⊎◌}
+use Rattle.std.specs.Prelude.{◌≡◌, refl, Bool, false, ◌||◌, List, [], ◌∷◌, ℕ, zero, suc, ◌+◌, ◌/◌, ◌%◌, ◌^◌, ◌≤◌, ◌<◌, max, T, eqb, ℤ, pos, length, get_or, set, drop, ◌⊎◌}
 use Rattle.std.specs.Int.Bits.{bit_or}
 use Rattle.std.proofs.Common.{sym, ap, ◌∙◌, subst, add-one, arith, drop_of_length-le, length-set, drop-cons, eq-eqb, ne_eqb, inl, inr, ⊎_elim}
 use Rattle.std.proofs.Math.Decide.{ℕ_discrete}

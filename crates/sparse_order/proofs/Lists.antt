@@ -1,5 +1,5 @@
 -- The laws of taking values out of a plain list. Assumes nothing.
-use Rattle.std.specs.Prelude.{◌≡◌, refl, Bool, true, false, cond, ◌||◌, List, [], ◌∷◌, ◌++◌, map, ℕ, zero, suc, ◌+◌, ◌≤◌, ◌<◌, T, ℤ, pos, length, get_or, take, set}
+use Rattle.std.specs.Prelude.{◌≡◌, refl, Bool, true, false, cond, ◌||◌, List, [], ◌∷◌, ◌++◌, map, ℕ, zero, suc, ◌≤◌, ◌<◌, T, ℤ, pos, length, get_or, take, set}
 use Rattle.std.proofs.Common.{sym, ap, subst, arith, T_not}
 use Rattle.rules.specs.Sets.{Chutes, has, same, keep, Different}
 use Rattle.rules.proofs.SetLaws.{keep-within, same→eq, same_refl, has-head, has-tail}

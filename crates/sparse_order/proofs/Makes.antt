@@ -1,5 +1,5 @@
 -- The order in which a set is made: ascending, and from values the absent ones are taken out of it in ascending order. Assumes nothing.
-use Rattle.std.specs.Prelude.{◌≡◌, refl, Bool, true, not, List, [], ◌∷◌, ◌++◌, map, ℕ, zero, suc, ◌+◌, ◌≤◌, T, ℤ, pos, ◌+ℤ◌, length, take}
+use Rattle.std.specs.Prelude.{◌≡◌, refl, Bool, true, not, List, [], ◌∷◌, ◌++◌, map, ℕ, zero, suc, ◌≤◌, T, ℤ, pos, ◌+ℤ◌, length, take}
 use Rattle.std.specs.Int.Signed.{lt_z}
 use Rattle.std.specs.Int.{w32}
 use Rattle.std.proofs.Common.{sym, ap, ◌∙◌, subst, arith, drop_of_length-le, take-suc-set, length-take-le, SFits}

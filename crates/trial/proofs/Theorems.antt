@@ -7,7 +7,7 @@ use Rattle.rules.specs.Board as rules
 use Rattle.rules.specs.declared.Refusal.{Refusal}
 use Rattle.rules.specs.declared.Refusal.TheVariants.{Broken, TooDeep, NoMark}
 use Rattle.rules.proofs.CallLaws.{refused-nothing, accepted-acts}
-use Rattle.domain.specs.Set.{values_of, set_of, well, width}
+use Rattle.domain.specs.Set.{values_of, set_of, width}
 use Rattle.domain.proofs.Places.{well-fits}
 use Rattle.domain.proofs.Holding.{well-mask}
 use Rattle.saved.specs.Saved.{fit_under, saved_at}

@@ -1,4 +1,4 @@
-//! The forms with a proof by hand: removal through a reference, a batch of closings, by value and lent, and a closing through a
+//! The forms through a reference: removal, a batch of closings, by value and lent, and a closing through a
 //! reference. Frames of 8,192 bytes (FORMAT.md) go to both sides, and every answer and every state is compared; a refusal must
 //! leave the state as it was.
 

@@ -1,9 +1,9 @@
 -- `alldiff::add_all` meets its contract: value after value joins. Assumes nothing.
-use Rattle.std.specs.Prelude.{T, ◌≡◌, refl, true, false, List, ℕ, suc, ◌+◌, ◌^◌, ◌<◌, ◌≤◌, ◌-◌, ℤ, pos, ◌+ℤ◌, length, set, take, not}
+use Rattle.std.specs.Prelude.{T, ◌≡◌, refl, true, false, List, ℕ, suc, ◌^◌, ◌<◌, ◌≤◌, ℤ, pos, ◌+ℤ◌, length, set, take}
 use Rattle.std.specs.Int.{w32}
 use Rattle.std.specs.Int.Count.{ones}
-use Rattle.std.proofs.Common.{length-take-le, take-suc-set, rules, sym, ap, ◌∙◌, subst, ⊎_elim, add-one, arith, length-set, SFits, to_z, of_z, eqb-true}
-use Rattle.std.proofs.lemmas.Bool.{eqb-false, not-true, not-false}
+use Rattle.std.proofs.Common.{length-take-le, take-suc-set, rules, sym, ap, ◌∙◌, subst, add-one, arith, length-set, SFits, to_z, of_z, eqb-true}
+use Rattle.std.proofs.lemmas.Bool.{eqb-false}
 use Rattle.domain.proofs.Laws.{in-values}
 use Rattle.mask.specs.Bit.{Lowest, bit_minus, pos-of-ne}
 use Rattle.mask.specs.Val.{val}
@@ -86,20 +86,20 @@ loop-rest-preserved c =
     let r = c.rest-rest.ensures k c.lowest.ensures.0 in
     let held : (m : ℕ) → In (val c.rest-rest.result) m → SFits w32 (z +ℤ pos m) = λ m h. i.invariant.3 m ((in_without (val i.rest) k m).0 (subst (λ (n : ℕ). In n m) r h)).0 in
     elim c.if-not-seen.branch [
-      then-not-seen+else-at-most w ↦
-    rw (w.vals-is, w.at-is, add-one) (
-      search rules,
-      length-set i.vals i.at x ∙ i.invariant.1,
-      joins all i.vals i.at (omega arith) z i.rest i.invariant.2 k c.lowest.ensures.0 x q (omega arith) c.rest-rest.result r (sym c.seen.ensures ∙ w.if-not-seen.true),
-      held,
-    )
+      | then-not-seen+else-at-most w ↦
+          rw (w.vals-is, w.at-is, add-one) (
+            search rules,
+            length-set i.vals i.at x ∙ i.invariant.1,
+            joins all i.vals i.at (omega arith) z i.rest i.invariant.2 k c.lowest.ensures.0 x q (omega arith) c.rest-rest.result r (sym c.seen.ensures ∙ w.if-not-seen.true),
+            held,
+          )
       | else-not-seen w ↦
-    rw (w.vals-is, w.at-is) (
-      search rules,
-      i.invariant.1,
-      stays all i.vals i.at (omega arith) z i.rest i.invariant.2 k c.lowest.ensures.0 x q c.rest-rest.result r (sym c.seen.ensures ∙ w.if-not-seen.false),
-      held,
-    )
+          rw (w.vals-is, w.at-is) (
+            search rules,
+            i.invariant.1,
+            stays all i.vals i.at (omega arith) z i.rest i.invariant.2 k c.lowest.ensures.0 x q c.rest-rest.result r (sym c.seen.ensures ∙ w.if-not-seen.false),
+            held,
+          )
     ]
 
 pub returns : goal.returns

@@ -1,4 +1,4 @@
-use Rattle.std.specs.Prelude.{◌≡◌, ℕ, ◌+◌, ◌≤◌, ◌-◌, ℤ, pos, ◌+ℤ◌, length, take}
+use Rattle.std.specs.Prelude.{◌≡◌, ℕ, ◌≤◌, pos, ◌+ℤ◌, length, take}
 use Rattle.std.specs.Int.{w32}
 use Rattle.std.specs.Int.Count.{ones}
 use Rattle.std.proofs.Common.{SFits}

@@ -1,7 +1,7 @@
 -- `alldiff::gather` meets its contract: domain after domain of the subset joins. Assumes nothing.
-use Rattle.std.specs.Prelude.{◌≡◌, refl, true, false, List, [], ℕ, suc, ◌+◌, ◌%◌, ◌<◌, ◌≤◌, ◌-◌, eqb, ℤ, pos, ◌+ℤ◌, length, take, drop, get_or}
+use Rattle.std.specs.Prelude.{◌≡◌, refl, true, false, List, [], ℕ, suc, ◌%◌, ◌<◌, ◌≤◌, eqb, ℤ, pos, ◌+ℤ◌, length, take, drop, get_or}
 use Rattle.std.specs.Int.{w32}
-use Rattle.std.proofs.Common.{rules, sym, ap, ◌∙◌, subst, ⊎_elim, add-one, arith, SFits, to_z, of_z, eq-eqb, ne_eqb}
+use Rattle.std.proofs.Common.{rules, sym, ap, ◌∙◌, subst, add-one, arith, SFits, to_z, of_z, eq-eqb, ne_eqb}
 use Rattle.mask.specs.Val.{val}
 use Rattle.mask.specs.Sets.{In}
 use Rattle.mask.specs.declared.Mask.{Mask}
@@ -86,21 +86,21 @@ loop-p-preserved c =
     let at = bits_at a.n a.set i.p h ∙ ap (λ (x : ℕ). eqb (x % 2) 1) (sym i.invariant.2) in
     let half = next-half i.inside a.set i.p i.invariant.2 in
     elim c.if-inside-eq1.branch [
-      then-inside-eq1+else-most-r w ↦
-    let d = w.add_all-r in
-    let low : SFits w32 (get_or a.mins.now i.p (pos 0)) = search rules in
-    let l : d.result ≤ a.most = search rules in
-    rw (w.vals-is, w.r-is, add-one) (
-      h,
-      l,
-      half,
-      d.ensures.room,
-      joined a.mins.now a.ms.now a.n a.set i.p h (take i.r i.vals) i.invariant.4 a.most (values_of z w.at.result) (at ∙ eq-eqb (i.inside % 2) 1 (search rules))
-          (read a.mins.now a.ms.now a.n i.p z w.at.result h (read32 low) w.at.ensures) d.new.vals d.result d.ensures l,
-    )
+      | then-inside-eq1+else-most-r w ↦
+          let d = w.add_all-r in
+          let low : SFits w32 (get_or a.mins.now i.p (pos 0)) = search rules in
+          let l : d.result ≤ a.most = search rules in
+          rw (w.vals-is, w.r-is, add-one) (
+            h,
+            l,
+            half,
+            d.ensures.room,
+            joined a.mins.now a.ms.now a.n a.set i.p h (take i.r i.vals) i.invariant.4 a.most (values_of z w.at.result) (at ∙ eq-eqb (i.inside % 2) 1 (search rules))
+                (read a.mins.now a.ms.now a.n i.p z w.at.result h (read32 low) w.at.ensures) d.new.vals d.result d.ensures l,
+          )
       | else-inside-eq1 w ↦
-    rw (w.vals-is, w.r-is, add-one)
-    (h, i.invariant.1, half, i.invariant.3, outside a.mins.now a.ms.now a.n a.set i.p h (take i.r i.vals) i.invariant.4 (at ∙ ne_eqb (i.inside % 2) 1 (search rules)))
+          rw (w.vals-is, w.r-is, add-one)
+          (h, i.invariant.1, half, i.invariant.3, outside a.mins.now a.ms.now a.n a.set i.p h (take i.r i.vals) i.invariant.4 (at ∙ ne_eqb (i.inside % 2) 1 (search rules)))
     ]
 
 pub returns : goal.returns

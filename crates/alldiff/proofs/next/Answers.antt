@@ -1,5 +1,5 @@
 -- `alldiff::next` meets its contract: entry after entry is tried. Assumes nothing.
-use Rattle.std.specs.Prelude.{◌≡◌, List, ℕ, ◌+◌, ◌<◌, ◌≤◌, ◌-◌, get_or}
+use Rattle.std.specs.Prelude.{◌≡◌, List, ℕ, ◌+◌, ◌<◌, ◌≤◌, get_or}
 use Rattle.std.specs.Int.Bits.{bit_and}
 use Rattle.std.proofs.Common.{rules, sym, subst, arith}
 use Rattle.std.proofs.Math.Decide.{ℕ_discrete}

@@ -1,5 +1,5 @@
 -- `alldiff::seen` meets its contract: it is asked of value after value. Assumes nothing.
-use Rattle.std.specs.Prelude.{◌≡◌, refl, true, false, ◌||◌, List, ℕ, ◌+◌, ◌<◌, ◌≤◌, ◌-◌, T, ℤ, pos, length, take, drop, get_or}
+use Rattle.std.specs.Prelude.{◌≡◌, refl, true, false, ◌||◌, List, ℕ, ◌+◌, ◌<◌, ◌≤◌, T, ℤ, pos, length, take, drop, get_or}
 use Rattle.std.specs.Int.{w32}
 use Rattle.std.proofs.Common.{rules, sym, ap, ◌∙◌, subst, add-one, arith, drop_of_length-le, length-take, drop-cons, to_z, of_z}
 use lib.Seq.{get_or-take}

@@ -1,8 +1,8 @@
 -- `alldiff::small` meets its contract: each place is counted. Assumes nothing.
-use Rattle.std.specs.Prelude.{◌≡◌, refl, ℕ, suc, ◌*◌, ◌^◌, ◌≤◌, ◌-◌}
+use Rattle.std.specs.Prelude.{◌≡◌, refl, ℕ, suc, ◌*◌, ◌^◌, ◌≤◌}
 use Rattle.std.specs.Int.Bits.{bit_or}
 use Rattle.std.specs.Int.Count.{ones}
-use Rattle.std.proofs.Common.{pow-suc, pow_mono, rules, sym, ap, ◌∙◌, subst, ⊎_elim, add-one, arith}
+use Rattle.std.proofs.Common.{pow-suc, pow_mono, rules, sym, ap, ◌∙◌, subst, add-one, arith}
 use Rattle.mask.specs.Val.{val}
 use Rattle.mask.specs.declared.Mask.{Mask}
 use Rattle.masks.specs.Cells.{mask_at}
@@ -29,7 +29,7 @@ loop-p-preserved c =
     let k = c.count.ensures.0 in
     rw add-one
     (elim c.if-count-le4.branch [
-      then-count-le4 w ↦ rw w.fit-is (search rules, b, subst (λ (x : ℕ). Few ws (suc i.p) (bit_or i.fit x)) (sym i.invariant.1) (fit-more ws i.p i.fit i.invariant.2))
+      | then-count-le4 w ↦ rw w.fit-is (search rules, b, subst (λ (x : ℕ). Few ws (suc i.p) (bit_or i.fit x)) (sym i.invariant.1) (fit-more ws i.p i.fit i.invariant.2))
       | else-count-le4 w ↦ rw w.fit-is (search rules, b, fit_same ws i.p i.fit i.invariant.2 (λ l. omega arith))
     ])
 

@@ -1,5 +1,5 @@
 -- `alldiff::step_two` meets its contract: entry by entry of the table it is step 2, by the present masks. Assumes nothing.
-use Rattle.std.specs.Prelude.{◌≡◌, refl, Bool, true, false, ◌||◌, List, ◌∷◌, ℕ, suc, ◌+◌, ◌<◌, ◌-◌, ℤ, drop, get_or}
+use Rattle.std.specs.Prelude.{◌≡◌, refl, Bool, true, false, ◌||◌, List, ◌∷◌, ℕ, suc, ◌+◌, ◌<◌, ℤ, drop, get_or}
 use Rattle.std.proofs.Common.{rules, sym, ap, ◌∙◌, add-one, arith}
 use Rattle.std.proofs.lemmas.Bool.{not-true, not-false}
 use Rattle.rules.specs.Pass.{Swept, chain, present, step2}

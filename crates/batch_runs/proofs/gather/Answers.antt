@@ -1,5 +1,5 @@
 -- `batch_runs::gather` meets its contract: closing after closing is put at its place. Assumes nothing.
-use Rattle.std.specs.Prelude.{◌≡◌, refl, ℕ, ◌-◌, ◌<◌, pos, length, take, get_or}
+use Rattle.std.specs.Prelude.{◌≡◌, refl, ℕ, ◌<◌, pos, length, take, get_or}
 use Rattle.std.specs.Int.{w32}
 use Rattle.std.proofs.Common.{sym, ap, ◌∙◌, arith, length-set, SFits, rules}
 use Rattle.offset.specs.Wide.{read32}

@@ -1,6 +1,6 @@
 -- `board::distinct` meets its contract: the ids so far differ, and each has marked its cell; so an id whose cell isn't marked is new. Assumes nothing.
-use Rattle.std.specs.Prelude.{◌≡◌, refl, true, ℕ, ◌-◌, ◌%◌, ◌<◌, not, get_or}
-use Rattle.std.proofs.Common.{sym, ap, ◌∙◌, ⊎_elim, not-suc-le-zero, add-one, arith, length-set, rules}
+use Rattle.std.specs.Prelude.{◌≡◌, refl, true, ℕ, ◌%◌, ◌<◌, not, get_or}
+use Rattle.std.proofs.Common.{sym, ap, ◌∙◌, not-suc-le-zero, add-one, arith, length-set, rules}
 use Rattle.board.specs.Well.{new_to, differ}
 use Rattle.rules.proofs.Tests.{fails, passes}
 use Rattle.saved.proofs.UptoLaws.{one-fails}

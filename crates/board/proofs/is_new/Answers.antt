@@ -1,5 +1,5 @@
 -- `board::is_new` meets its contract: nothing was met so far exactly if each number so far passes. Assumes nothing.
-use Rattle.std.specs.Prelude.{◌≡◌, refl, Bool, true, false, not, ◌&&◌, ◌||◌, ℕ, ◌-◌, eqb, get_or}
+use Rattle.std.specs.Prelude.{◌≡◌, refl, Bool, true, false, not, ◌&&◌, ◌||◌, ℕ, eqb, get_or}
 use Rattle.std.proofs.Common.{sym, ap, ◌∙◌, add-one, arith, rules}
 use Rattle.board.specs.Well.{new_to}
 use Rattle.board.proofs.is_new.Goals as goal

@@ -1,6 +1,6 @@
 -- `board::look` meets its contract: the rows so far are well formed, their ids are copied, and `at` is the seat among them; ids that differ have one seat. Assumes nothing.
-use Rattle.std.specs.Prelude.{◌≡◌, refl, ℕ, ◌-◌, not, get_or}
-use Rattle.std.proofs.Common.{sym, ap, ◌∙◌, ⊎_elim, not-suc-le-zero, add-one, arith, length-set, rules}
+use Rattle.std.specs.Prelude.{◌≡◌, refl, ℕ, not, get_or}
+use Rattle.std.proofs.Common.{sym, ap, ◌∙◌, not-suc-le-zero, add-one, arith, length-set, rules}
 use Rattle.rules.proofs.Tests.{fails, passes}
 use Rattle.board.specs.Rows.{id_at, seat_in}
 use Rattle.board.specs.Well.{well_rows}

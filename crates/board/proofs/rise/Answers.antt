@@ -1,5 +1,5 @@
 -- `board::rise` meets its contract: each number so far is smaller than the next, and numbers that rise differ. Assumes nothing.
-use Rattle.std.specs.Prelude.{◌≡◌, ℕ, suc, ◌+◌, ◌-◌, ◌<◌, ltb, get_or}
+use Rattle.std.specs.Prelude.{◌≡◌, ℕ, suc, ◌+◌, ◌<◌, ltb, get_or}
 use Rattle.std.proofs.Common.{sym, subst, not-suc-le-zero, add-one, arith, ltb-true, rules}
 use Rattle.std.proofs.Math.Decide.{ℕ_discrete}
 use Rattle.board.proofs.Seats.{rise-differ}

@@ -1,5 +1,5 @@
 -- `board_close::close` meets its contract: `look` tells a board that isn't well formed, an id that isn't registered, and the row of one that is. Assumes nothing.
-use Rattle.std.proofs.Common.{⊎_elim, arith}
+use Rattle.std.proofs.Common.{arith}
 use Rattle.closing.specs.Kinds.{kind_of}
 use Rattle.board_close.proofs.Closing.{row-well, closed-known, closed-unknown, closed-broken}
 use Rattle.board_close.proofs.close.Goals as goal

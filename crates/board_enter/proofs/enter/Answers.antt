@@ -1,6 +1,6 @@
 -- `board_enter::enter` meets its contract: `look` and `judge` tell the case of the definition. Assumes nothing.
 use Rattle.std.specs.Prelude.{◌≡◌, ◌||◌, ◌⊎◌, ℕ, ◌<◌, ◌≤◌, eqb, set}
-use Rattle.std.proofs.Common.{ap, ◌∙◌, inl, inr, ⊎_elim, arith}
+use Rattle.std.proofs.Common.{ap, ◌∙◌, inl, inr, arith}
 use Rattle.board.specs.declared.Row.{Row}
 use Rattle.board_enter.specs.Enter.{place_for, grown_to}
 use Rattle.board_enter.proofs.Entering.{accepted-room, enter-is}

@@ -1,4 +1,4 @@
-use Rattle.std.specs.Prelude.{◌≡◌, ◌-◌, ◌≤◌, get_or}
+use Rattle.std.specs.Prelude.{◌≡◌, ◌≤◌, get_or}
 use Rattle.board.specs.Rows.{seat_in}
 use Rattle.board_list.proofs.find.Given as goal
 

@@ -1,5 +1,5 @@
 -- `board_list::ids_of` meets its contract: the ids are copied one by one. Assumes nothing.
-use Rattle.std.specs.Prelude.{refl, ◌-◌}
+use Rattle.std.specs.Prelude.{refl}
 use Rattle.std.proofs.Common.{not-suc-le-zero, arith, length-set, rules}
 use Rattle.board.specs.Rows.{id_at}
 use Rattle.board.proofs.Seats.{copied}

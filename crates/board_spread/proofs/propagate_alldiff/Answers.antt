@@ -1,5 +1,4 @@
 -- `board_spread::propagate_alldiff` meets its contract: `look` tells a board that isn't well formed, and `prune` does the rest. Assumes nothing.
-use Rattle.std.proofs.Common.{⊎_elim}
 use Rattle.board.proofs.LookLaws.{looked-well}
 use Rattle.board_spread.proofs.Spreading.{rows-sound, spread-known, spread-unknown}
 use Rattle.board_spread.proofs.propagate_alldiff.Goals as goal

@@ -1,6 +1,5 @@
 -- `ends::largest` meets its contract. The invariant: the largest of `best` and the values from i on is the largest of all.
 -- Assumes nothing.
-use Rattle.std.specs.Prelude.{◌-◌}
 use Rattle.std.specs.Int.{w32}
 use Rattle.std.proofs.Common.{sym, ◌∙◌, arith, to_z, rules}
 use Rattle.ends.proofs.Firsts.{first-start, first_more, first-end}

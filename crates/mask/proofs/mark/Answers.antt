@@ -1,5 +1,5 @@
 -- `mask::mark` meets its contract: one word changes. Says nothing of how many words there are. Assumes nothing.
-use Rattle.std.specs.Prelude.{ℕ, ◌-◌, ◌*◌, ◌/◌, ◌%◌, ◌^◌, set}
+use Rattle.std.specs.Prelude.{ℕ, ◌*◌, ◌/◌, ◌%◌, ◌^◌, set}
 use Rattle.std.specs.Int.Bits.{bit_or}
 use Rattle.std.proofs.Common.{rules, ap, ◌∙◌, arith}
 use Rattle.mask.specs.Val.{val, words_of}

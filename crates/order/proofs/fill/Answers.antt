@@ -1,5 +1,5 @@
 -- `order::fill` meets its contract: every cell below i holds its own number. Assumes nothing.
-use Rattle.std.specs.Prelude.{◌≡◌, refl, List, ℕ, ◌-◌, length, set}
+use Rattle.std.specs.Prelude.{◌≡◌, refl, List, ℕ, length, set}
 use Rattle.std.proofs.Common.{ap, ◌∙◌, arith}
 use Rattle.order.specs.Order.{counted}
 use Rattle.order.proofs.Counted.{length-counted, counted-more}

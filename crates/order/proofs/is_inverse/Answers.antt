@@ -1,5 +1,5 @@
 -- `order::is_inverse` meets its contract: every number below i leads back to itself, and once all do the two are inverse. Assumes nothing.
-use Rattle.std.specs.Prelude.{◌≡◌, ℕ, ◌-◌}
+use Rattle.std.specs.Prelude.{◌≡◌, ℕ}
 use Rattle.std.proofs.Common.{sym, subst, arith}
 use Rattle.order.proofs.Orders.{inverse-of, not_yes}
 use Rattle.order.proofs.OneWay.{Back, back_more, all_back}

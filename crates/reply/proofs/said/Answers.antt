@@ -1,6 +1,6 @@
 -- `reply::said` meets its contract, by its two cases. Assumes nothing.
 use Rattle.std.specs.Prelude.{Bool}
-use Rattle.std.proofs.Common.{sym, ap, rules}
+use Rattle.std.proofs.Common.{sym, ap}
 use Rattle.reply.specs.Told.{coded}
 use Rattle.rules.specs.Board as rules
 use Rattle.reply.proofs.said.Goals as goal

@@ -1,5 +1,5 @@
 -- `saved::join` meets its contract: what is joined so far is below a limit exactly if x and each mask so far are. Assumes nothing.
-use Rattle.std.specs.Prelude.{◌≡◌, refl, Bool, true, false, ◌&&◌, ℕ, ◌-◌, ◌^◌, ltb}
+use Rattle.std.specs.Prelude.{◌≡◌, refl, Bool, true, false, ◌&&◌, ℕ, ◌^◌, ltb}
 use Rattle.std.specs.Int.Bits.{bit_or}
 use Rattle.std.proofs.Common.{sym, ap, ◌∙◌, add-one, arith, rules}
 use Rattle.mask.specs.Val.{val}

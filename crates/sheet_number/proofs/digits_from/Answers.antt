@@ -1,6 +1,6 @@
 -- `sheet_number::digits_from` meets its contract. The invariant: what the run from `at` writes, the digits so far and the run from p write,
 -- and the two runs end at one place. Assumes nothing.
-use Rattle.std.specs.Prelude.{◌-◌, refl}
+use Rattle.std.specs.Prelude.{refl}
 use Rattle.std.proofs.Common.{sym, ◌∙◌, arith}
 use Rattle.sheet_number.proofs.Runs.{digit-in-run, not-in-run, run-stops, run_ends, end_none, end_goes, digits-none, digits-goes, digits-minus}
 use Rattle.sheet_number.proofs.FirstByte.{capped-none, capped-some}

@@ -1,5 +1,5 @@
 -- `sheet_sections::read_destination_lines` meets its contract. The invariant: the rows read so far fill the array from the front. Assumes nothing.
-use Rattle.std.specs.Prelude.{ℕ, ◌-◌, refl, List, [], ◌∷◌, ◌++◌, set}
+use Rattle.std.specs.Prelude.{ℕ, refl, List, [], ◌∷◌, ◌++◌, set}
 use Rattle.std.proofs.Common.{ap₂, ap, sym, ◌∙◌, arith}
 use Rattle.sheet_number.specs.declared.Step.TheVariants.{At}
 use Rattle.sheet_sections.specs.declared.Destinations.{Destinations}

@@ -1,4 +1,4 @@
-use Rattle.std.specs.Prelude.{ℕ, ◌-◌, ◌+◌, ◌≡◌, List, ◌++◌}
+use Rattle.std.specs.Prelude.{ℕ, ◌-◌, ◌≡◌, List, ◌++◌}
 use Rattle.std.proofs.lemmas.List.Edits.{sets}
 use Rattle.sheet_sections.specs.Sections.{listed}
 use Rattle.sheet_sections.specs.Rows.{before}

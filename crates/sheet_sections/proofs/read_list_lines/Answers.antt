@@ -1,6 +1,6 @@
 -- `sheet_sections::read_list_lines` meets its contract. The invariant: the lists read so far lie in one run, where their spans say, and what
 -- all the lines give is these and what the lines to come give. Assumes nothing.
-use Rattle.std.specs.Prelude.{ℕ, ◌≤◌, ◌-◌, ◌+◌, ◌*◌, ◌≡◌, refl, List, [], ◌∷◌, ◌++◌, length, set}
+use Rattle.std.specs.Prelude.{ℕ, ◌≤◌, ◌+◌, ◌*◌, ◌≡◌, refl, List, [], ◌∷◌, ◌++◌, length, set}
 use Rattle.std.proofs.Common.{ap, ap₂, sym, ◌∙◌, arith, length-append}
 use Rattle.std.proofs.lemmas.List.Edits.{sets}
 use Rattle.sheet_form.specs.declared.Span.{Span}

@@ -1,5 +1,5 @@
 -- Each removal leaves the set well formed, so that the next may follow without a test. Assumes nothing.
-use Rattle.std.proofs.Common.{◌-◌, sym, refl, ◌∙◌, subst, arith, rules}
+use Rattle.std.proofs.Common.{sym, refl, ◌∙◌, subst, arith, rules}
 use Rattle.sparse_inner.specs.Set.{full, WellF}
 use Rattle.sparse_inner.proofs.Drops.{drop-at-well}
 use Rattle.sparse_bench.proofs.removed.Goals as goal

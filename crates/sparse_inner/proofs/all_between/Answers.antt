@@ -1,5 +1,5 @@
 -- `sparse_inner::all_between` meets its contract: so far it says whether every cell below k has a number between the two. Assumes nothing.
-use Rattle.std.specs.Prelude.{◌≡◌, Bool, ◌&&◌, ℕ, ◌-◌}
+use Rattle.std.specs.Prelude.{◌≡◌, Bool, ◌&&◌, ℕ}
 use Rattle.std.proofs.Common.{sym, ap, ◌∙◌, arith, rules}
 use Rattle.order.specs.Order.{all_b}
 use Rattle.order.proofs.Orders.{all_none, all-next}

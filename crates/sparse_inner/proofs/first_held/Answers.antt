@@ -1,5 +1,5 @@
 -- `sparse_inner::first_held` meets its contract: every offset that the scan passed is not held. Assumes nothing.
-use Rattle.std.specs.Prelude.{ℕ, ◌-◌, ◌≤◌, get_or}
+use Rattle.std.specs.Prelude.{ℕ, ◌≤◌, get_or}
 use Rattle.std.proofs.Common.{arith}
 use Rattle.sparse_inner.proofs.Sets.{from_more}
 use Rattle.sparse_inner.proofs.first_held.Goals as goal

@@ -1,6 +1,5 @@
 -- `sparse_inner::from_cut` meets its contract: offsets below the smallest held one need no turn. Assumes nothing.
 use Rattle.std.proofs.Common.{sym, ◌∙◌, lt-ltb, le-ltb, rules}
-use Rattle.std.specs.Prelude.{◌-◌}
 use Rattle.sparse_inner.specs.Set.{Full, full}
 use Rattle.sparse_inner.specs.Change.{from_cut}
 use Rattle.sparse_inner.proofs.Runs.{from-min}

@@ -1,4 +1,4 @@
-use Rattle.std.specs.Prelude.{ℕ, ◌-◌, ◌≤◌, ◌<◌, get_or}
+use Rattle.std.specs.Prelude.{ℕ, ◌≤◌, ◌<◌, get_or}
 use Rattle.sparse_inner.proofs.last_held.Given as goal
 
 abbrev pub invariant-loop-v : goal.invariant-loop-v

@@ -1,8 +1,7 @@
 -- `sparse_make::sift` meets its contract: the offsets of the values are marked, and the others dropped in ascending order. Assumes nothing.
 use Rattle.std.specs.Prelude.{◌≡◌, refl, Bool, true, false, not, cond, ℕ, ◌+◌, ◌-◌, ◌/◌, ◌≤◌, pos, length, set, List}
-use Rattle.std.proofs.Common.{sym, ap, ◌∙◌, subst, ⊎_elim, arith, SFits, to_z-of_z, rules}
+use Rattle.std.proofs.Common.{sym, ap, ◌∙◌, subst, arith, SFits, to_z-of_z, rules}
 use Rattle.std.specs.Int.{w32}
-use Rattle.std.proofs.lemmas.Bool.{not-true, not-false}
 use lib.ListN.{get_or}
 use Rattle.rules.specs.Sets.{Chutes, has}
 use Rattle.sparse_inner.specs.declared.Sparse.{Sparse}

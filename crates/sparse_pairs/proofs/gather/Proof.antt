@@ -1,6 +1,6 @@
 -- `sparse_pairs::gather` meets its contract: the wanted values of the cells before k stand in the first m cells. Assumes nothing.
 use Rattle.std.specs.Prelude.{◌≡◌, refl, [], ◌∷◌, Bool, not, cond, ℕ, ◌+◌, ◌-◌, ◌≤◌, ◌<◌, ℤ, length, take, ◌++◌, set}
-use Rattle.std.proofs.Common.{sym, ap, ◌∙◌, arith, SFits, to_z, of_z, to_z-of_z, rules, ⊎_elim, length-append}
+use Rattle.std.proofs.Common.{sym, ap, ◌∙◌, arith, SFits, to_z, of_z, to_z-of_z, rules, length-append}
 use Rattle.std.specs.Int.{w32}
 use Rattle.std.specs.Bool.{beq}
 use lib.ListN.{get_or}

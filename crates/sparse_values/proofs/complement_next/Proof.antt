@@ -1,5 +1,5 @@
 -- `sparse_values::complement_next` meets its contract: a cell from the size on and before n holds the next value. Assumes nothing.
-use Rattle.std.specs.Prelude.{◌≡◌, ℕ, ◌+◌, ◌-◌}
+use Rattle.std.specs.Prelude.{◌≡◌, ℕ, ◌+◌}
 use Rattle.std.proofs.Common.{sym, ap, ◌∙◌, arith, SFits, lt-ltb, le-ltb, rules}
 use Rattle.std.specs.Int.{w32}
 use lib.ListN.{get_or}

@@ -1,5 +1,5 @@
 -- `sparse_values::next` meets its contract: a cell before the size holds the next value. Assumes nothing.
-use Rattle.std.specs.Prelude.{◌≡◌, ◌+◌, ◌-◌}
+use Rattle.std.specs.Prelude.{◌≡◌, ◌+◌}
 use Rattle.std.proofs.Common.{sym, ◌∙◌, arith, SFits, lt-ltb, le-ltb, rules}
 use Rattle.std.specs.Int.{w32}
 use Rattle.sparse_inner.specs.declared.Verdict.TheVariants.{Fine}

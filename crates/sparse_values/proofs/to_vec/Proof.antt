@@ -1,5 +1,5 @@
 -- `sparse_values::to_vec` meets its contract: the values are written where they have room. Assumes nothing.
-use Rattle.std.specs.Prelude.{◌≡◌, ◌-◌, length}
+use Rattle.std.specs.Prelude.{◌≡◌, length}
 use Rattle.std.proofs.Common.{sym, ◌∙◌, lt-ltb, le-ltb, rules}
 use Rattle.sparse_inner.specs.declared.Verdict.TheVariants.{Fine}
 use Rattle.sparse_inner.specs.Set.{Full, full, verdict_of, WellF}

@@ -1,5 +1,5 @@
 -- `state::is_fitting` meets its contract: the ids that it has passed are in their range. Assumes nothing.
-use Rattle.std.specs.Prelude.{◌-◌, ◌<◌, ◌^◌, get_or}
+use Rattle.std.specs.Prelude.{◌<◌, ◌^◌, get_or}
 use Rattle.std.proofs.Common.{not-suc-le-zero, arith, below_more, rules}
 use Rattle.state.specs.Layout.{start}
 use Rattle.state.proofs.Reading.{no_flag, no-id, all_fit}

@@ -1,5 +1,5 @@
 -- `state::put_rows` meets its contract. The invariant: with the rows from i on written too, the words are as with all rows written. Assumes nothing.
-use Rattle.std.specs.Prelude.{◌+◌, ◌<◌, ◌≡◌, refl, List, ℕ, ◌-◌, ◌≤◌, length, drop}
+use Rattle.std.specs.Prelude.{◌+◌, ◌<◌, ◌≡◌, refl, List, ℕ, ◌≤◌, length, drop}
 use Rattle.std.proofs.Common.{sym, ap, ◌∙◌, arith, drop_of_length-le, rules}
 use Rattle.std.proofs.lemmas.List.Edits.{sets}
 use lib.Seq.{length-sets}

@@ -1,5 +1,5 @@
 -- `state::put_saved` meets its contract. The invariant: with the words from k on written too, the words are as with all written. Assumes nothing.
-use Rattle.std.specs.Prelude.{◌<◌, refl, ◌+◌, ◌-◌, ◌≤◌, length}
+use Rattle.std.specs.Prelude.{◌<◌, refl, ◌+◌, ◌≤◌, length}
 use Rattle.std.proofs.Common.{sym, ap, ◌∙◌, arith, drop_of_length-le, length-set, rules}
 use Rattle.std.proofs.lemmas.List.Edits.{sets}
 use Rattle.state.proofs.Runs.{word_more}

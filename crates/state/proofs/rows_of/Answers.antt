@@ -1,5 +1,5 @@
 -- `state::rows_of` meets its contract: row after row is that of the words. Assumes nothing.
-use Rattle.std.specs.Prelude.{replicate, ◌≡◌, refl, ℕ, ◌-◌, ◌<◌, length}
+use Rattle.std.specs.Prelude.{replicate, ◌≡◌, refl, ℕ, ◌<◌, length}
 use Rattle.std.proofs.Common.{below_none, arith, length-set, below_more, rules}
 use Rattle.board.specs.Rows.{row_at}
 use Rattle.state.specs.Layout.{row_in}

@@ -1,5 +1,5 @@
 -- `state::saved_of` meets its contract: word after word is copied. Assumes nothing.
-use Rattle.std.specs.Prelude.{take, drop, refl, ◌+◌, ◌-◌, get_or}
+use Rattle.std.specs.Prelude.{take, drop, refl, ◌+◌, get_or}
 use Rattle.std.proofs.Common.{length-drop, length-take-le, sym, ◌∙◌, not-suc-le-zero, arith, length-set, rules}
 use lib.Seq.{ext_get_or, get_or-take, get_or-drop}
 use Rattle.board.proofs.Seats.{copied}

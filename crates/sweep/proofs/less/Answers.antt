@@ -1,5 +1,5 @@
 -- `sweep::less` meets its contract: value after value is struck. Assumes nothing.
-use Rattle.std.specs.Prelude.{List, [], ◌∷◌, ℕ, ◌+◌, ◌<◌, ◌-◌, ℤ, pos, length, take, ◌≡◌, get_or}
+use Rattle.std.specs.Prelude.{List, [], ◌∷◌, ℕ, ◌+◌, ◌<◌, ℤ, pos, length, take, ◌≡◌, get_or}
 use Rattle.std.specs.Int.{w32}
 use Rattle.std.proofs.Common.{add-one, take-suc, of_z, to_z, rules, sym, ap, ◌∙◌, arith}
 use Rattle.offset.specs.Wide.{read32}

@@ -1,7 +1,7 @@
 -- `sweep::strike_others` meets its contract: turn by turn it is the sweep of all places but p. Assumes nothing.
-use Rattle.std.specs.Prelude.{◌≡◌, refl, [], ◌∷◌, ℕ, ◌<◌, ◌-◌, ℤ, pos, get_or}
+use Rattle.std.specs.Prelude.{◌≡◌, refl, [], ◌∷◌, ℕ, ◌<◌, ℤ, pos, get_or}
 use Rattle.std.specs.Int.{w32}
-use Rattle.std.proofs.Common.{rules, sym, subst, ⊎_elim, arith, add-one, to_z, of_z}
+use Rattle.std.proofs.Common.{rules, sym, subst, arith, add-one, to_z, of_z}
 use Rattle.std.proofs.lemmas.Bool.{not-true, not-false}
 use Rattle.offset.specs.Wide.{read32}
 use Rattle.rules.specs.Pass.{sweep}
@@ -38,18 +38,18 @@ loop-q-preserved c =
     let all = sweep m u (listed a.mins.now a.ms.now a.n) in
     let h : i.q < a.n = search rules in
     elim c.if-q-p.branch [
-      then-q-p+else-not-did w ↦
-    let k = w.strike_one-did in
-    let s : Struck u (get_or a.mins.now i.q (pos 0)) i.q i.ms k.new.ms k.result = subst (λ (z : ℤ). Struck u z i.q i.ms k.new.ms k.result) (read32 (search rules)) k.ensures in
-    rw (w.ms-is, w.changed-is, add-one) (
-      h,
-      left-more a.n i.q a.ms.now i.ms k.new.ms u (get_or a.mins.now i.q (pos 0)) k.result h i.invariant.1 s,
-      on m u all a.mins.now a.n i.q i.changed (only-length a.n a.p) h i.ms i.invariant.2 k.new.ms k.result s (only_out a.n a.p i.q (search rules)) (not-false k.result.consistent w.if-not-did.false),
-    )
+      | then-q-p+else-not-did w ↦
+          let k = w.strike_one-did in
+          let s : Struck u (get_or a.mins.now i.q (pos 0)) i.q i.ms k.new.ms k.result = subst (λ (z : ℤ). Struck u z i.q i.ms k.new.ms k.result) (read32 (search rules)) k.ensures in
+          rw (w.ms-is, w.changed-is, add-one) (
+            h,
+            left-more a.n i.q a.ms.now i.ms k.new.ms u (get_or a.mins.now i.q (pos 0)) k.result h i.invariant.1 s,
+            on m u all a.mins.now a.n i.q i.changed (only-length a.n a.p) h i.ms i.invariant.2 k.new.ms k.result s (only_out a.n a.p i.q (search rules)) (not-false k.result.consistent w.if-not-did.false),
+          )
       | else-q-p w ↦
-    let e : i.q ≡ a.p = search rules in
-    rw (w.ms-is, w.changed-is, add-one)
-    (h, i.invariant.1, over m u all a.mins.now a.n i.q i.changed (only-length a.n a.p) h i.ms i.invariant.2 (rw e (only-in a.n a.p (rw e at h))))
+          let e : i.q ≡ a.p = search rules in
+          rw (w.ms-is, w.changed-is, add-one)
+          (h, i.invariant.1, over m u all a.mins.now a.n i.q i.changed (only-length a.n a.p) h i.ms i.invariant.2 (rw e (only-in a.n a.p (rw e at h))))
     ]
 
 pub returns : goal.returns

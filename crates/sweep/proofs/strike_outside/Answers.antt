@@ -1,6 +1,6 @@
 -- `sweep::strike_outside` meets its contract: turn by turn it is the sweep of the places outside the subset. Assumes nothing.
-use Rattle.std.specs.Prelude.{◌≡◌, refl, ℕ, ◌%◌, ◌<◌, ◌-◌, ℤ, pos, eqb, take, get_or}
-use Rattle.std.proofs.Common.{rules, sym, ap, ◌∙◌, subst, ⊎_elim, arith, add-one, ne_eqb, eq-eqb}
+use Rattle.std.specs.Prelude.{◌≡◌, refl, ℕ, ◌%◌, ◌<◌, ℤ, pos, eqb, take, get_or}
+use Rattle.std.proofs.Common.{rules, sym, ap, ◌∙◌, subst, arith, add-one, ne_eqb, eq-eqb}
 use Rattle.std.proofs.lemmas.Bool.{not-true, not-false}
 use Rattle.offset.specs.Wide.{read32}
 use Rattle.rules.specs.Pass.{sweep}
@@ -39,18 +39,18 @@ loop-q-preserved c =
     let h : i.q < a.n = search rules in
     let at = bits_at a.n a.set i.q h ∙ ap (λ (x : ℕ). eqb (x % 2) 1) (sym i.invariant.1) in
     elim c.if-inside-ne1.branch [
-      then-inside-ne1+else-not-did w ↦
-    let k = w.strike_some-did in
-    let s : Struck u (get_or a.mins.now i.q (pos 0)) i.q i.ms k.new.ms k.result = subst (λ (z : ℤ). Struck u z i.q i.ms k.new.ms k.result) (read32 (search rules)) k.ensures in
-    rw (w.ms-is, w.changed-is, add-one) (
-      h,
-      next-half i.inside a.set i.q i.invariant.1,
-      left-more a.n i.q a.ms.now i.ms k.new.ms u (get_or a.mins.now i.q (pos 0)) k.result h i.invariant.2 s,
-      on m u all a.mins.now a.n i.q i.changed (bits-length a.n a.set) h i.ms i.invariant.3 k.new.ms k.result s (at ∙ ne_eqb (i.inside % 2) 1 (search rules)) (not-false k.result.consistent w.if-not-did.false),
-    )
+      | then-inside-ne1+else-not-did w ↦
+          let k = w.strike_some-did in
+          let s : Struck u (get_or a.mins.now i.q (pos 0)) i.q i.ms k.new.ms k.result = subst (λ (z : ℤ). Struck u z i.q i.ms k.new.ms k.result) (read32 (search rules)) k.ensures in
+          rw (w.ms-is, w.changed-is, add-one) (
+            h,
+            next-half i.inside a.set i.q i.invariant.1,
+            left-more a.n i.q a.ms.now i.ms k.new.ms u (get_or a.mins.now i.q (pos 0)) k.result h i.invariant.2 s,
+            on m u all a.mins.now a.n i.q i.changed (bits-length a.n a.set) h i.ms i.invariant.3 k.new.ms k.result s (at ∙ ne_eqb (i.inside % 2) 1 (search rules)) (not-false k.result.consistent w.if-not-did.false),
+          )
       | else-inside-ne1 w ↦
-    rw (w.ms-is, w.changed-is, add-one)
-    (h, next-half i.inside a.set i.q i.invariant.1, i.invariant.2, over m u all a.mins.now a.n i.q i.changed (bits-length a.n a.set) h i.ms i.invariant.3 (at ∙ eq-eqb (i.inside % 2) 1 (search rules)))
+          rw (w.ms-is, w.changed-is, add-one)
+          (h, next-half i.inside a.set i.q i.invariant.1, i.invariant.2, over m u all a.mins.now a.n i.q i.changed (bits-length a.n a.set) h i.ms i.invariant.3 (at ∙ eq-eqb (i.inside % 2) 1 (search rules)))
     ]
 
 pub returns : goal.returns

@@ -1,8 +1,8 @@
 -- `sweep::strike_unassigned` meets its contract: turn by turn it is the sweep of the places that aren't assigned. A place that is
 -- still to come is as it was at entry. Assumes nothing.
-use Rattle.std.specs.Prelude.{◌≡◌, refl, Bool, true, false, ◌||◌, List, ℕ, suc, ◌<◌, ◌-◌, eqb, ℤ, pos, not, get_or}
+use Rattle.std.specs.Prelude.{◌≡◌, refl, Bool, true, false, ◌||◌, List, ℕ, suc, ◌<◌, eqb, ℤ, pos, not, get_or}
 use Rattle.std.specs.Int.Count.{ones}
-use Rattle.std.proofs.Common.{rules, sym, ap, ◌∙◌, subst, ⊎_elim, arith, add-one}
+use Rattle.std.proofs.Common.{rules, sym, ap, ◌∙◌, subst, arith, add-one}
 use Rattle.std.proofs.lemmas.Bool.{not-true, not-false}
 use Rattle.mask.specs.Val.{val}
 use Rattle.mask.specs.declared.Mask.{Mask}
@@ -61,23 +61,23 @@ loop-q-preserved c =
     let i = c.loop-q in
     let h : i.q < a.n = search rules in
     elim c.if-not-is_one.branch [
-      then-not-is_one+else-not-did w ↦
-    let k = w.strike_mask-did in
-    let t = w.if-not-is_one.true in
-    let after = k.new.ms in
-    rw (w.ms-is, w.changed-is, add-one) (
-      h,
-      left-more a.n i.q a.ms.now i.ms after (values_of (pos 0) a.u) (pos 0) k.result h i.invariant.1 (k.ensures (pos 0)),
-      later a.ms.now a.n i.q a.u h i.ms i.changed i.invariant.3 i.invariant.2 c.at.result c.at.ensures c.is_one.result c.is_one.ensures t after k.result k.ensures,
-      went a.ms.now a.n i.q a.u h i.ms i.changed i.invariant.3 i.invariant.2 c.at.result c.at.ensures c.is_one.result c.is_one.ensures t after k.result k.ensures (not-false k.result.consistent w.if-not-did.false),
-    )
+      | then-not-is_one+else-not-did w ↦
+          let k = w.strike_mask-did in
+          let t = w.if-not-is_one.true in
+          let after = k.new.ms in
+          rw (w.ms-is, w.changed-is, add-one) (
+            h,
+            left-more a.n i.q a.ms.now i.ms after (values_of (pos 0) a.u) (pos 0) k.result h i.invariant.1 (k.ensures (pos 0)),
+            later a.ms.now a.n i.q a.u h i.ms i.changed i.invariant.3 i.invariant.2 c.at.result c.at.ensures c.is_one.result c.is_one.ensures t after k.result k.ensures,
+            went a.ms.now a.n i.q a.u h i.ms i.changed i.invariant.3 i.invariant.2 c.at.result c.at.ensures c.is_one.result c.is_one.ensures t after k.result k.ensures (not-false k.result.consistent w.if-not-did.false),
+          )
       | else-not-is_one w ↦
-    rw (w.ms-is, w.changed-is, add-one) (
-      h,
-      i.invariant.1,
-      λ p l. i.invariant.2 p (omega arith),
-      passed a.ms.now a.n i.q a.u h i.ms i.changed i.invariant.3 i.invariant.2 c.at.result c.at.ensures c.is_one.result c.is_one.ensures w.if-not-is_one.false,
-    )
+          rw (w.ms-is, w.changed-is, add-one) (
+            h,
+            i.invariant.1,
+            λ p l. i.invariant.2 p (omega arith),
+            passed a.ms.now a.n i.q a.u h i.ms i.changed i.invariant.3 i.invariant.2 c.at.result c.at.ensures c.is_one.result c.is_one.ensures w.if-not-is_one.false,
+          )
     ]
 
 pub returns : goal.returns

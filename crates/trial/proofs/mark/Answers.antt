@@ -1,5 +1,5 @@
 -- `trial::mark` meets its contract: the saved words so far are those of the definition, and a refused call goes through no row. Assumes nothing.
-use Rattle.std.specs.Prelude.{◌≡◌, refl, List, ℕ, ◌-◌, ◌<◌, ltb}
+use Rattle.std.specs.Prelude.{◌≡◌, refl, List, ℕ, ◌<◌, ltb}
 use Rattle.std.proofs.Common.{sym, ap, ◌∙◌, add-one, arith, ltb-true, rules}
 use Rattle.saved.specs.Saved.{put_at}
 use Rattle.board.specs.Rows.{domain_at}

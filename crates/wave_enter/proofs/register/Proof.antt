@@ -1,6 +1,6 @@
 -- `wave_enter::register` meets its contract: after i destinations the rows are those of the board that the first i registrations leave, and one more finds its row. Assumes nothing.
 use Rattle.std.specs.Prelude.{◌≡◌, refl, ℕ, ◌-◌, ◌≤◌, ◌<◌, length, take}
-use Rattle.std.proofs.Common.{ap, ◌∙◌, ⊎_elim, inl, inr, arith, length-set, rules}
+use Rattle.std.proofs.Common.{ap, ◌∙◌, inl, inr, arith, length-set, rules}
 use Rattle.board.proofs.ViewLaws.{mapped}
 use Rattle.wave_enter.specs.Registered.{registered_of}
 use Rattle.wave_enter.proofs.Registers.{all-rows, Open, open-start, open-end, room, fits, open_more}

@@ -1,5 +1,5 @@
 -- `wave_probe::fill` meets its contract: storing keeps the length. Assumes nothing.
-use Rattle.std.specs.Prelude.{refl, ◌-◌}
+use Rattle.std.specs.Prelude.{refl}
 use Rattle.std.proofs.Common.{◌∙◌, arith, length-set}
 use Rattle.wave_probe.proofs.fill.Goals as goal
 

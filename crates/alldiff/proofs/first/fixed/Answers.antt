@@ -1,9 +1,9 @@
 -- `alldiff::first::fixed` meets its contract: place by place the values of the assigned are gathered. Assumes nothing.
-use Rattle.std.specs.Prelude.{◌≡◌, true, false, ℕ, suc, ◌<◌, ◌-◌}
+use Rattle.std.specs.Prelude.{◌≡◌, ℕ, suc, ◌<◌}
 use Rattle.std.specs.Int.Bits.{bit_and}
 use Rattle.std.specs.Int.Count.{ones}
-use Rattle.std.proofs.Common.{rules, sym, ap, ◌∙◌, subst, true≢false, ⊎_elim, arith, add-one, eqb-true}
-use Rattle.std.proofs.lemmas.Bool.{eqb-false, not-false}
+use Rattle.std.proofs.Common.{rules, sym, ap, ◌∙◌, subst, true≢false, arith, add-one, eqb-true}
+use Rattle.std.proofs.lemmas.Bool.{eqb-false}
 use Rattle.mask.specs.Val.{val}
 use Rattle.mask.specs.declared.Mask.{Mask}
 use Rattle.alldiff.specs.Fixing.{One, Fixing}
@@ -24,13 +24,13 @@ loop-p-preserved c =
     let i = c.loop-p in
     let h : i.p < a.n = search rules in
     elim c.if-is_one.branch [
-      then-is_one+else-not-is_none w ↦
-    let o : One a.ms.now i.p = ap (λ (m : Mask). ones (val m)) (sym at.ensures) ∙ eqb-true (ones (val at.result)) 1 (sym c.is_one.ensures ∙ w.if-is_one.true) in
-    let new : bit_and (val at.result) (val i.values) ≡ 0 = sym w.and.ensures ∙ eqb-true (val w.and.result) 0 (sym w.is_none.ensures ∙ w.if-not-is_none.false) in
-    rw (w.values-is, add-one) (h, subst (Fixing a.ms.now (suc i.p)) (sym w.or-values.ensures) (fixing-more a.ms.now i.p (val i.values) i.invariant.1 at.result at.ensures o new))
+      | then-is_one+else-not-is_none w ↦
+          let o : One a.ms.now i.p = ap (λ (m : Mask). ones (val m)) (sym at.ensures) ∙ eqb-true (ones (val at.result)) 1 (sym c.is_one.ensures ∙ w.if-is_one.true) in
+          let new : bit_and (val at.result) (val i.values) ≡ 0 = sym w.and.ensures ∙ eqb-true (val w.and.result) 0 (sym w.is_none.ensures ∙ w.if-not-is_none.false) in
+          rw (w.values-is, add-one) (h, subst (Fixing a.ms.now (suc i.p)) (sym w.or-values.ensures) (fixing-more a.ms.now i.p (val i.values) i.invariant.1 at.result at.ensures o new))
       | else-is_one w ↦
-    rw (w.values-is, add-one)
-    (h, fixing-over a.ms.now i.p (val i.values) i.invariant.1 (λ o. eqb-false (ones (val at.result)) 1 (sym c.is_one.ensures ∙ w.if-is_one.false) (ap (λ (m : Mask). ones (val m)) at.ensures ∙ o)))
+          rw (w.values-is, add-one)
+          (h, fixing-over a.ms.now i.p (val i.values) i.invariant.1 (λ o. eqb-false (ones (val at.result)) 1 (sym c.is_one.ensures ∙ w.if-is_one.false) (ap (λ (m : Mask). ones (val m)) at.ensures ∙ o)))
     ]
 
 pub returns : goal.returns

@@ -1,5 +1,5 @@
 -- `alldiff::first::is_level` meets its contract: each of the values is compared with the first. Assumes nothing.
-use Rattle.std.specs.Prelude.{◌≡◌, ◌&&◌, List, ℕ, suc, ◌-◌, T, eqb, ℤ, pos, get_or}
+use Rattle.std.specs.Prelude.{◌≡◌, ◌&&◌, List, ℕ, suc, T, eqb, ℤ, pos, get_or}
 use Rattle.std.specs.Int.{w32}
 use Rattle.std.proofs.Common.{rules, ap, ◌∙◌, not-suc-le-zero, arith, add-one, eqb→eq, of_z}
 use Rattle.std.proofs.Math.Decide.{ℕ_discrete}

@@ -1,8 +1,8 @@
 -- `alldiff::first::one_by_one` meets its contract: place by place it is step 1, by the masks as they were at entry. Assumes nothing.
-use Rattle.std.specs.Prelude.{◌≡◌, Bool, true, false, ◌||◌, List, [], ◌∷◌, ℕ, suc, ◌+◌, ◌<◌, ◌-◌, eqb, ℤ, pos, ◌+ℤ◌, get_or}
+use Rattle.std.specs.Prelude.{◌≡◌, Bool, true, false, ◌||◌, List, [], ◌∷◌, ℕ, suc, ◌<◌, eqb, ℤ, pos, ◌+ℤ◌, get_or}
 use Rattle.std.specs.Int.{w32}
 use Rattle.std.specs.Int.Count.{ones}
-use Rattle.std.proofs.Common.{rules, sym, ap, ◌∙◌, subst, ⊎_elim, add-one, arith, SFits, to_z, of_z, eqb-true}
+use Rattle.std.proofs.Common.{rules, sym, ap, ◌∙◌, subst, add-one, arith, SFits, to_z, of_z, eqb-true}
 use Rattle.std.proofs.lemmas.Bool.{not-true, not-false}
 use Rattle.sweep.specs.declared.Outcome.{Outcome}
 use Rattle.rules.specs.Sets.{Chutes}
@@ -85,14 +85,14 @@ loop-p-preserved c =
     let i = c.loop-p in
     let es = listed a.mins.now i.ms a.n in
     elim c.if-is_one.branch [
-      then-is_one+else-not-did w ↦
-    let d = w.strike_others-did in
-    let after = d.new.ms in
-    let e = went a.mins.now a.ms.now a.n i.p (search rules) i.changed es i.invariant.2 c.at-m.result c.at-m.ensures c.is_one.result c.is_one.ensures w.if-is_one.true w.lowest.result w.lowest.ensures.0 w.value-v.result w.value-v.ensures (search rules) (search rules) d.result after d.ensures.1 (not-false d.result.consistent w.if-not-did.false) in
-    rw (w.ms-is, w.changed-is, add-one) (search rules, left-then a.n a.ms.now i.ms after i.invariant.1 d.ensures.0, e)
+      | then-is_one+else-not-did w ↦
+          let d = w.strike_others-did in
+          let after = d.new.ms in
+          let e = went a.mins.now a.ms.now a.n i.p (search rules) i.changed es i.invariant.2 c.at-m.result c.at-m.ensures c.is_one.result c.is_one.ensures w.if-is_one.true w.lowest.result w.lowest.ensures.0 w.value-v.result w.value-v.ensures (search rules) (search rules) d.result after d.ensures.1 (not-false d.result.consistent w.if-not-did.false) in
+          rw (w.ms-is, w.changed-is, add-one) (search rules, left-then a.n a.ms.now i.ms after i.invariant.1 d.ensures.0, e)
       | else-is_one w ↦
-    rw (w.ms-is, w.changed-is, add-one)
-    (search rules, i.invariant.1, passed a.mins.now a.ms.now a.n i.p (search rules) i.changed es i.invariant.2 c.at-m.result c.at-m.ensures (sym c.is_one.ensures ∙ w.if-is_one.false))
+          rw (w.ms-is, w.changed-is, add-one)
+          (search rules, i.invariant.1, passed a.mins.now a.ms.now a.n i.p (search rules) i.changed es i.invariant.2 c.at-m.result c.at-m.ensures (sym c.is_one.ensures ∙ w.if-is_one.false))
     ]
 
 pub returns : goal.returns

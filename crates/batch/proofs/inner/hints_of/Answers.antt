@@ -1,5 +1,5 @@
 -- `batch::inner::hints_of` is safe and ends; it promises nothing. Assumes nothing.
-use Rattle.std.specs.Prelude.{refl, ◌-◌}
+use Rattle.std.specs.Prelude.{refl}
 use Rattle.std.proofs.Common.{length-set, rules}
 use Rattle.batch.proofs.inner.hints_of.Goals as goal
 

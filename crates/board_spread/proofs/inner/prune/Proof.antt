@@ -1,5 +1,5 @@
 -- `board_spread::inner::prune` meets its contract: the pass is given what the listed rows hold, and its masks go back to them. Assumes nothing.
-use Rattle.std.specs.Prelude.{◌≡◌, refl, length}
+use Rattle.std.specs.Prelude.{refl, length}
 use Rattle.std.proofs.Common.{rules}
 use Rattle.board.proofs.ViewLaws.{sound}
 use Rattle.board_spread.proofs.Gathers.{within_all}

@@ -1,5 +1,5 @@
 -- `domain::inner::upto` meets its contract: only the bits up to the threshold's cut stay. Assumes nothing.
-use Rattle.std.specs.Prelude.{◌≡◌, ℕ, ◌+◌, ◌-◌, ◌^◌, pos, ◌+ℤ◌, ◌-ℤ◌}
+use Rattle.std.specs.Prelude.{◌≡◌, ℕ, ◌-◌, ◌^◌, pos, ◌+ℤ◌, ◌-ℤ◌}
 use Rattle.std.proofs.Common.{ap, ◌∙◌, arith, SFits, rules}
 use Rattle.std.specs.Int.{w32}
 use Rattle.domain.proofs.Signed.{read}

@@ -1,6 +1,6 @@
 -- `pirozhkan_bit::make::begin` meets its contract: what it is given is written. Assumes nothing.
 use Rattle.std.specs.Prelude.{refl}
-use Rattle.std.proofs.Common.{ap, ◌∙◌, rules}
+use Rattle.std.proofs.Common.{ap, ◌∙◌}
 use Rattle.reply.specs.Told.{coded}
 use Rattle.reply.specs.Through.{left}
 use Rattle.pirozhkan_bit.specs.Lent.{words}

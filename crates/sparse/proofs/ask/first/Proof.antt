@@ -1,5 +1,5 @@
 -- `sparse::ask::first` meets its contract: it is asked of an accepted set, and refused as the check says otherwise. Assumes nothing.
-use Rattle.std.specs.Prelude.{◌≡◌, ◌-◌, ◌<◌}
+use Rattle.std.specs.Prelude.{◌≡◌, ◌<◌}
 use Rattle.std.proofs.Common.{sym, ◌∙◌, arith, SFits, eq-eqb, ne_eqb, rules}
 use Rattle.std.specs.Int.{w32}
 use Rattle.sparse_inner.specs.declared.Verdict.TheVariants.{Fine}

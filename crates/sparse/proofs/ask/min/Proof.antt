@@ -1,5 +1,5 @@
 -- `sparse::ask::min` meets its contract: it is asked of an accepted set, and refused as the check says otherwise. Assumes nothing.
-use Rattle.std.specs.Prelude.{◌≡◌, ℕ, ◌-◌, ◌<◌}
+use Rattle.std.specs.Prelude.{◌≡◌, ℕ, ◌<◌}
 use Rattle.std.proofs.Common.{sym, ◌∙◌, arith, SFits, rules}
 use Rattle.std.specs.Int.{w32}
 use Rattle.std.proofs.lemmas.Bool.{eqb-false}
