@@ -1,5 +1,5 @@
 -- The contracts of a call on a state d with further parameters x, by value and through a reference, for a definition f. They are what the
--- contracts `r ≡ f d x` and `both (now d.exit) r ≡ f (now d.entry) x` of a program mean.
+-- contracts `result ≡ f d x` and `both d.new result ≡ f d.old x` of a program mean.
 --     Answers, AnswersBehind           what each tells
 --     ByValue, Behind                  the same as triples: all that a caller knows of its callee
 --     Holds, HoldsBehind, as-stated    the clauses that a program states follow from what is told, so a run that tells it meets them
