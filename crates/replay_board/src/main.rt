@@ -5,19 +5,29 @@
 // comparison with the Rust (differential/run) reaches the calls through it too.
 #![tactic(auto)]
 
+ghost use Rattle.std.specs.Prelude.{◌≡◌, length};
+
 use std::io;
 use std::io::{ErrorKind, Read, Write};
 
-const FRAME: usize = 16384;
+fn frame() -> [u8; 16384]
+    ensures { 16384 ≡ length result }
+{
+    [0; 16384]
+}
 
 // What the answers to a frame have room in.
-const ROOM: usize = 65536;
+fn room() -> [u8; 65536]
+    ensures { 65536 ≡ length result }
+{
+    [0; 65536]
+}
 
 fn main(rt: HostRuntime) -> io::Result<()> {
     let mut input = rt.stdin();
     let mut output = rt.stdout();
-    let mut script = vec![in rt.alloc(); 0u8; FRAME]?;
-    let mut out = vec![in rt.alloc(); 0u8; ROOM]?;
+    let mut script = frame();
+    let mut out = room();
     for _ in 0..u64::MAX {
         if let Err(e) = input.read_exact(&mut script) {
             return match e.kind() {

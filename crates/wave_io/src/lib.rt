@@ -3,26 +3,22 @@
 // print_input, print_argument, has_argument
 //
 // All that matters is in `wave`. A board is written whole, once all of it is known. What can't be read or written is told by one line on
-// standard error, under its name; no board of it is written. An error that they return is a lack of memory, or that the line can't be written.
+// standard error, under its name; no board of it is written. An error that they return is that the line can't be written.
 #![tactic(auto)]
 
 ghost use Rattle.std.specs.Prelude.{◌≡◌, ◌≤◌, length, take, IfOk, IfErr, IfSome, OnOk};
 ghost use Rattle.std.specs.Io.KnownBytes.{Appends};
 ghost use Rattle.wave_print.specs.Print.{most};
 ghost use Rattle.wave.specs.Text.{wave_text};
-ghost use Rattle.wave_io.specs.Board.{IsPrefixLen, sheet_of, board_of};
+ghost use Rattle.wave_io.specs.Board.{IsPrefixLen, board_of};
 ghost use Rattle.wave_io.specs.Failures.{OnRead};
 
 use domain::Counted;
-use std::alloc::Global;
 use std::env::FillError;
 use std::fs::File;
 use std::io;
 use std::io::{Error, ErrorKind, Read, Write};
 use std::rt::{Env, Files};
-
-// One byte more than a sheet can have, so that a longer one is seen to be too long.
-const ROOM: u64 = 32769;
 
 // The longest path that can be opened.
 const PATH: usize = 4096;
@@ -34,12 +30,35 @@ enum Failed {
     Write(Error),
 }
 
-fn read_sheet<R: Read + Drop>(alloc: Global, input: R) -> io::Result<Vec<u8>>
-    ensures { IfOk result (λ sheet. IfSome (R.remaining input) (λ xs. sheet.items ≡ sheet_of xs)) }
+// One byte more than a sheet can have, so that a longer one is seen to be too long.
+fn room() -> [u8; 32769]
+    ensures { 32769 ≡ length result }
 {
-    let mut sheet = Vec::new(alloc);
-    input.take(ROOM).read_to_end(&mut sheet)?;
-    Ok(sheet)
+    [0; 32769]
+}
+
+// How many bytes were read, to the input's end or as many as sheet has. A read that a signal interrupts is tried again.
+fn read_sheet<R: Read>(input: &mut R, sheet: &mut [u8]) -> io::Result<usize>
+    ensures within { IfOk result (λ n. n ≤ length sheet.new) }
+    ensures bytes { IfOk result
+        (λ n. IfSome (R.remaining input.old) (λ xs. take n sheet.new ≡ take (length sheet.old) xs)) }
+{
+    let mut at = 0;
+    for _ in 0..u64::MAX {
+        if at >= sheet.len() {
+            return Ok(at);
+        }
+        match input.read(&mut sheet[at..]) {
+            Ok(0) => return Ok(at),
+            Ok(n) => at += n,
+            Err(e) => {
+                if e.kind() != ErrorKind::Interrupted {
+                    return Err(e);
+                }
+            }
+        }
+    }
+    Err(Error::from(ErrorKind::TimedOut))
 }
 
 // How many bytes of out hold the text. With MOST bytes lent the wave is never refused.
@@ -54,18 +73,19 @@ fn written(sheet: &[u8], out: &mut [u8]) -> usize
 }
 
 // Reads a sheet and writes its board.
-fn answer<R: Read + Drop, W: Write>(alloc: Global, input: R, output: &mut W) -> Result<(), Failed>
+fn answer<R: Read + Drop, W: Write>(mut input: R, output: &mut W) -> Result<(), Failed>
     ensures board { OnOk result (IfSome (R.remaining input)
         (λ xs. Appends (W.contents output.old) (W.contents output.new) (board_of xs))) }
     ensures unread { IfErr result (λ why. OnRead why (output.new ≡ output.old)) }
 {
-    let sheet = match read_sheet(alloc, input) {
-        Ok(sheet) => sheet,
+    let mut sheet = room();
+    let n = match read_sheet(&mut input, &mut sheet) {
+        Ok(n) => n,
         Err(e) => return Err(Failed::Read(e)),
     };
     let mut out = [0u8; wave::MOST];
-    let n = written(&sheet, &mut out);
-    match output.write_all(&out[..n]) {
+    let k = written(&sheet[..n], &mut out);
+    match output.write_all(&out[..k]) {
         Ok(()) => Ok(()),
         Err(e) => Err(Failed::Write(e)),
     }
@@ -76,25 +96,20 @@ fn tell(rt: &impl Eprint, name: &str, error: Error) -> io::Result<()> {
     eprintln!(rt; "{name}: {error}")
 }
 
-fn print_from<R: Read + Drop>(
-    rt: &(impl AllocGlobal + Print + Eprint),
-    input: R,
-    name: &str,
-) -> io::Result<()> {
-    match answer(rt.alloc(), input, &mut io::writer(rt)) {
+fn print_from<R: Read + Drop>(rt: &(impl Print + Eprint), input: R, name: &str) -> io::Result<()> {
+    match answer(input, &mut io::writer(rt)) {
         Ok(()) => Ok(()),
-        Err(Failed::Read(e)) if e.kind() == ErrorKind::OutOfMemory => Err(e),
         Err(Failed::Read(e)) => tell(rt, name, e),
         Err(Failed::Write(e)) => tell(rt, "standard output", e),
     }
 }
 
-pub fn print_input(rt: &(impl Input + AllocGlobal + Print + Eprint)) -> io::Result<()> {
+pub fn print_input(rt: &(impl Input + Print + Eprint)) -> io::Result<()> {
     print_from(rt, rt.reader(), "standard input")
 }
 
 // The sheet in the file of this path.
-fn print_file(rt: &(impl Files + AllocGlobal + Print + Eprint), path: &str) -> io::Result<()> {
+fn print_file(rt: &(impl Files + Print + Eprint), path: &str) -> io::Result<()> {
     match File::open(rt, path) {
         Ok(file) => print_from(rt, file, path),
         Err(e) => tell(rt, path, e),
@@ -102,10 +117,7 @@ fn print_file(rt: &(impl Files + AllocGlobal + Print + Eprint), path: &str) -> i
 }
 
 // The sheet in the file that an argument names.
-pub fn print_argument(
-    rt: &(impl Env + Files + AllocGlobal + Print + Eprint),
-    i: usize,
-) -> io::Result<()> {
+pub fn print_argument(rt: &(impl Env + Files + Print + Eprint), i: usize) -> io::Result<()> {
     let mut path = [0u8; PATH];
     if let Ok(n) = rt.arg(i, &mut path) {
         if let Ok(path) = std::str::from_utf8(&path[..n]) {
@@ -173,14 +185,14 @@ mod tests {
     #[test]
     fn writes_the_board(rt: HostRuntime) {
         let mut out = Vec::new(rt.alloc());
-        assert!(rt; answer(rt.alloc(), SHEET, &mut out).is_ok());
+        assert!(rt; answer(SHEET, &mut out).is_ok());
         assert!(rt; out.as_slice() == BOARD);
     }
 
     #[test]
     fn writes_nothing_of_a_sheet_that_breaks_off(rt: HostRuntime) {
         let mut out = Vec::new(rt.alloc());
-        let answered = answer(rt.alloc(), Cut(SHEET), &mut out);
+        let answered = answer(Cut(SHEET), &mut out);
         assert!(rt; matches!(answered, Err(Failed::Read(_))));
         assert!(rt; out.is_empty());
     }
@@ -189,7 +201,7 @@ mod tests {
     fn tells_a_write_that_fails(rt: HostRuntime) {
         for most in [0, 1, BOARD.len() - 1] {
             let mut output = Full { taken: 0, most };
-            let answered = answer(rt.alloc(), SHEET, &mut output);
+            let answered = answer(SHEET, &mut output);
             assert!(rt; matches!(answered, Err(Failed::Write(_))));
             assert_eq!(rt; output.taken, most);
         }
@@ -197,6 +209,6 @@ mod tests {
             taken: 0,
             most: BOARD.len(),
         };
-        assert!(rt; answer(rt.alloc(), SHEET, &mut output).is_ok());
+        assert!(rt; answer(SHEET, &mut output).is_ok());
     }
 }

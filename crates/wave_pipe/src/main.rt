@@ -4,19 +4,23 @@
 // The comparison with the Rust (differential/run) reaches the calls through it.
 #![tactic(auto)]
 
+ghost use Rattle.std.specs.Prelude.{◌≡◌, length};
+
 use std::io;
 use std::io::{ErrorKind, Read, Write};
 
-const FRAME: usize = 65536;
-
-// What the answers to a frame have room in.
-const ROOM: usize = 65536;
+// A frame of the input, and what the answers to it have room in.
+fn room() -> [u8; 65536]
+    ensures { 65536 ≡ length result }
+{
+    [0; 65536]
+}
 
 fn main(rt: HostRuntime) -> io::Result<()> {
     let mut input = rt.stdin();
     let mut output = rt.stdout();
-    let mut script = vec![in rt.alloc(); 0u8; FRAME]?;
-    let mut out = vec![in rt.alloc(); 0u8; ROOM]?;
+    let mut script = room();
+    let mut out = room();
     for _ in 0..u64::MAX {
         if let Err(e) = input.read_exact(&mut script) {
             return match e.kind() {
