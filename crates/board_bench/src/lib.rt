@@ -1,7 +1,7 @@
-// Loops over the board's calls that are timed, exported for the comparison's `speed`. A board of 64 destinations, each with the
-// chutes 0 to 63, is made once; each turn makes one call on it and goes on with the board that it handed back, but propagation, for
-// which the caller says how many of the first destinations are assigned, goes on with the board as it came. What comes out is a
-// sum of the answers, so that no turn can be left out.
+// Loops over the board's calls that are timed, for the comparison's `speed`; `board_bench_c` exports them. A board of 64 destinations,
+// each with the chutes 0 to 63, is made once; each turn makes one call on it and goes on with the board that it handed back, but propagation,
+// for which the caller says how many of the first destinations are assigned, goes on with the board as it came. What comes out is a sum of the
+// answers, so that no turn can be left out.
 //
 // It is a crate of its own so that each call has one caller here, as in a program that works with a board in one place.
 #![tactic(auto)]
@@ -95,8 +95,7 @@ fn set_up_marked(marks: usize) -> Board {
     b
 }
 
-#[unsafe(no_mangle)]
-pub extern "C" fn bench_propagate(assigned: usize, turns: usize, list: &[u32]) -> u64 {
+pub fn bench_propagate(assigned: usize, turns: usize, list: &[u32]) -> u64 {
     let start = set_up(assigned);
     let mut sum: u64 = 0;
     let mut i = 0;
@@ -112,8 +111,7 @@ pub extern "C" fn bench_propagate(assigned: usize, turns: usize, list: &[u32]) -
     sum
 }
 
-#[unsafe(no_mangle)]
-pub extern "C" fn bench_close(marks: usize, turns: usize) -> u64 {
+pub fn bench_close(marks: usize, turns: usize) -> u64 {
     let mut b = set_up_marked(marks);
     let mut sum: u64 = 0;
     let mut i = 0;
@@ -127,8 +125,7 @@ pub extern "C" fn bench_close(marks: usize, turns: usize) -> u64 {
     sum
 }
 
-#[unsafe(no_mangle)]
-pub extern "C" fn bench_enter(turns: usize) -> u64 {
+pub fn bench_enter(turns: usize) -> u64 {
     let mut b = set_up(0);
     let mut sum: u64 = 0;
     let mut i = 0;
@@ -142,8 +139,7 @@ pub extern "C" fn bench_enter(turns: usize) -> u64 {
     sum
 }
 
-#[unsafe(no_mangle)]
-pub extern "C" fn bench_ask(turns: usize) -> u64 {
+pub fn bench_ask(turns: usize) -> u64 {
     let b = set_up(0);
     let mut sum: u64 = 0;
     let mut i = 0;
@@ -154,8 +150,7 @@ pub extern "C" fn bench_ask(turns: usize) -> u64 {
     sum
 }
 
-#[unsafe(no_mangle)]
-pub extern "C" fn bench_trial(turns: usize) -> u64 {
+pub fn bench_trial(turns: usize) -> u64 {
     let mut b = set_up(0);
     let mut sum: u64 = 0;
     let mut i = 0;

@@ -1,5 +1,5 @@
-// Batches of 256 closings in a loop, exported for the comparison's `speed`. Each turn goes on with the board that the last one handed
-// back, so that no turn can be left out.
+// Batches of 256 closings in a loop, for the comparison's `speed`; `hand_bench_c` exports them. Each turn goes on with the board that the
+// last one handed back, so that no turn can be left out.
 //
 // bench_many: the closings by value. bench_lent: the same closings lent.
 #![tactic(auto)]
@@ -78,8 +78,7 @@ fn counted(c: Counted) -> u64 {
     }
 }
 
-#[unsafe(no_mangle)]
-pub extern "C" fn bench_many(turns: usize) -> u64 {
+pub fn bench_many(turns: usize) -> u64 {
     let mut b = board();
     let cs = run();
     let mut sum = 0;
@@ -95,8 +94,7 @@ pub extern "C" fn bench_many(turns: usize) -> u64 {
     sum
 }
 
-#[unsafe(no_mangle)]
-pub extern "C" fn bench_lent(turns: usize) -> u64 {
+pub fn bench_lent(turns: usize) -> u64 {
     let mut b = board();
     let cs = run();
     let mut sum = 0;

@@ -42,8 +42,7 @@ fn close_all(ws: &mut [u64], cs: [Closing; 256], n: usize) -> u64
 
 // Answers how many closings answered yes. Runs of different lengths are Short, more than 256 closings TooLong, and a number that is
 // no kind is BadSheet at its place.
-#[unsafe(no_mangle)]
-pub extern "C" fn pirozhkan_batch(ws: &mut [u64], kinds: &[u32], ids: &[u32], values: &[i32]) -> u64
+pub fn pirozhkan_batch(ws: &mut [u64], kinds: &[u32], ids: &[u32], values: &[i32]) -> u64
     ensures { left {C = List ℕ} result ws.new ≡ batched_by (form_of kinds.now (length ids.now) (length values.now)) (closings_of kinds.now ids.now values.now) ws.old }
 {
     let form = batch_runs::judge(kinds, ids, values);

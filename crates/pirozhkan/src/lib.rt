@@ -1,4 +1,4 @@
-// The library to link: every call of the board as an exported function on numbers and slices, over a state that the caller lends.
+// The library to link: every call of the board on numbers and slices, over a state that the caller lends; `pirozhkan_c` exports them.
 //
 // make: pirozhkan_new, pirozhkan_add_variable, pirozhkan_add_variable_with_values
 // shut: pirozhkan_remove_value, pirozhkan_assign_variable, pirozhkan_remove_below, pirozhkan_remove_above,

@@ -3,8 +3,7 @@ ghost use Rattle.std.specs.Prelude.{◌≡◌, List, ℕ};
 ghost use Rattle.reply.specs.Through.{left, through, answered};
 ghost use Rattle.pirozhkan.specs.Calls.{spreading, whether_ready};
 
-#[unsafe(no_mangle)]
-pub extern "C" fn pirozhkan_propagate_alldiff(ws: &mut [u64], list: &[u32]) -> u64
+pub fn pirozhkan_propagate_alldiff(ws: &mut [u64], list: &[u32]) -> u64
     ensures { left {C = List ℕ} result ws.new ≡ through (spreading list.now) ws.old }
 {
     let why = reply::judge(ws);
@@ -19,8 +18,7 @@ pub extern "C" fn pirozhkan_propagate_alldiff(ws: &mut [u64], list: &[u32]) -> u
     reply::pair(answer)
 }
 
-#[unsafe(no_mangle)]
-pub extern "C" fn pirozhkan_ready(ws: &[u64], list: &[u32]) -> u64
+pub fn pirozhkan_ready(ws: &[u64], list: &[u32]) -> u64
     ensures { result ≡ answered (whether_ready list.now) ws.now }
 {
     let why = reply::judge(ws);

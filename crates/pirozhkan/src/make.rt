@@ -8,8 +8,7 @@ use super::inner;
 use rules::{Value, Variable};
 
 // Whatever the words were.
-#[unsafe(no_mangle)]
-pub extern "C" fn pirozhkan_new(ws: &mut [u64]) -> u64
+pub fn pirozhkan_new(ws: &mut [u64]) -> u64
     ensures { left {C = List ℕ} result ws.new ≡ begun blank ws.old }
 {
     if ws.len() < state::WORDS {
@@ -19,8 +18,7 @@ pub extern "C" fn pirozhkan_new(ws: &mut [u64]) -> u64
     0
 }
 
-#[unsafe(no_mangle)]
-pub extern "C" fn pirozhkan_add_variable(ws: &mut [u64], id: u32, min: i32, max: i32) -> u64
+pub fn pirozhkan_add_variable(ws: &mut [u64], id: u32, min: i32, max: i32) -> u64
     ensures { left {C = List ℕ} result ws.new ≡ through (ranging id min max) ws.old }
 {
     let why = reply::judge(ws);
@@ -34,8 +32,7 @@ pub extern "C" fn pirozhkan_add_variable(ws: &mut [u64], id: u32, min: i32, max:
     )
 }
 
-#[unsafe(no_mangle)]
-pub extern "C" fn pirozhkan_add_variable_with_values(ws: &mut [u64], id: u32, values: &[i32]) -> u64
+pub fn pirozhkan_add_variable_with_values(ws: &mut [u64], id: u32, values: &[i32]) -> u64
     ensures { left {C = List ℕ} result ws.new ≡ through (listing id values.now) ws.old }
 {
     let why = reply::judge(ws);

@@ -6,8 +6,7 @@ ghost use Rattle.pirozhkan.specs.Calls.{sizing, whether_assigned, assigned_to, w
 use board_ask::Bounds;
 use rules::{Refusal, Variable};
 
-#[unsafe(no_mangle)]
-pub extern "C" fn pirozhkan_domain_size(ws: &[u64], id: u32) -> u64
+pub fn pirozhkan_domain_size(ws: &[u64], id: u32) -> u64
     ensures { result ≡ answered (sizing id) ws.now }
 {
     let why = reply::judge(ws);
@@ -18,8 +17,7 @@ pub extern "C" fn pirozhkan_domain_size(ws: &[u64], id: u32) -> u64
     reply::counted(board_ask::domain_size(b, Variable(id)))
 }
 
-#[unsafe(no_mangle)]
-pub extern "C" fn pirozhkan_is_assigned(ws: &[u64], id: u32) -> u64
+pub fn pirozhkan_is_assigned(ws: &[u64], id: u32) -> u64
     ensures { result ≡ answered (whether_assigned id) ws.now }
 {
     let why = reply::judge(ws);
@@ -30,8 +28,7 @@ pub extern "C" fn pirozhkan_is_assigned(ws: &[u64], id: u32) -> u64
     reply::told(board_ask::is_assigned(b, Variable(id)))
 }
 
-#[unsafe(no_mangle)]
-pub extern "C" fn pirozhkan_assigned_value(ws: &[u64], id: u32) -> u64
+pub fn pirozhkan_assigned_value(ws: &[u64], id: u32) -> u64
     ensures { result ≡ answered (assigned_to id) ws.now }
 {
     let why = reply::judge(ws);
@@ -42,8 +39,7 @@ pub extern "C" fn pirozhkan_assigned_value(ws: &[u64], id: u32) -> u64
     reply::found(board_ask::assigned_value(b, Variable(id)))
 }
 
-#[unsafe(no_mangle)]
-pub extern "C" fn pirozhkan_is_inconsistent(ws: &[u64], id: u32) -> u64
+pub fn pirozhkan_is_inconsistent(ws: &[u64], id: u32) -> u64
     ensures { result ≡ answered (whether_inconsistent id) ws.now }
 {
     let why = reply::judge(ws);
@@ -54,8 +50,7 @@ pub extern "C" fn pirozhkan_is_inconsistent(ws: &[u64], id: u32) -> u64
     reply::told(board_ask::is_inconsistent(b, Variable(id)))
 }
 
-#[unsafe(no_mangle)]
-pub extern "C" fn pirozhkan_domains_changed(ws: &[u64]) -> u64
+pub fn pirozhkan_domains_changed(ws: &[u64]) -> u64
     ensures { result ≡ answered whether_changed ws.now }
 {
     let why = reply::judge(ws);
@@ -85,8 +80,7 @@ fn put_ends(answer: Bounds, cells: &mut [i32]) -> u64
     }
 }
 
-#[unsafe(no_mangle)]
-pub extern "C" fn pirozhkan_get_bounds(ws: &[u64], id: u32, cells: &mut [i32]) -> u64
+pub fn pirozhkan_get_bounds(ws: &[u64], id: u32, cells: &mut [i32]) -> u64
     ensures { left {C = List ℤ} result cells.new ≡ shown (bounds_into id cells.old) ws.now cells.old }
 {
     let why = reply::judge(ws);
@@ -97,8 +91,7 @@ pub extern "C" fn pirozhkan_get_bounds(ws: &[u64], id: u32, cells: &mut [i32]) -
     put_ends(board_ask::get_bounds(b, Variable(id)), cells)
 }
 
-#[unsafe(no_mangle)]
-pub extern "C" fn pirozhkan_get_domain_values(ws: &[u64], id: u32, cells: &mut [i32]) -> u64
+pub fn pirozhkan_get_domain_values(ws: &[u64], id: u32, cells: &mut [i32]) -> u64
     ensures { left {C = List ℤ} result cells.new ≡ shown (values_into id cells.old) ws.now cells.old }
 {
     let why = reply::judge(ws);
@@ -109,8 +102,7 @@ pub extern "C" fn pirozhkan_get_domain_values(ws: &[u64], id: u32, cells: &mut [
     reply::counted(board_ask::get_domain_values_into(b, Variable(id), cells))
 }
 
-#[unsafe(no_mangle)]
-pub extern "C" fn pirozhkan_variables(ws: &[u64], cells: &mut [u32]) -> u64
+pub fn pirozhkan_variables(ws: &[u64], cells: &mut [u32]) -> u64
     ensures { left {C = List ℕ} result cells.new ≡ shown (ids_into cells.old) ws.now cells.old }
 {
     let why = reply::judge(ws);

@@ -24,36 +24,31 @@ fn close(ws: &mut [u64], kind: Kind, id: u32, value: i32) -> u64
     reply::told(answer)
 }
 
-#[unsafe(no_mangle)]
-pub extern "C" fn pirozhkan_remove_value(ws: &mut [u64], id: u32, value: i32) -> u64
+pub fn pirozhkan_remove_value(ws: &mut [u64], id: u32, value: i32) -> u64
     ensures { left {C = List ℕ} result ws.new ≡ through (closing remove id value) ws.old }
 {
     close(ws, Kind::Remove, id, value)
 }
 
-#[unsafe(no_mangle)]
-pub extern "C" fn pirozhkan_assign_variable(ws: &mut [u64], id: u32, value: i32) -> u64
+pub fn pirozhkan_assign_variable(ws: &mut [u64], id: u32, value: i32) -> u64
     ensures { left {C = List ℕ} result ws.new ≡ through (closing assign id value) ws.old }
 {
     close(ws, Kind::Assign, id, value)
 }
 
-#[unsafe(no_mangle)]
-pub extern "C" fn pirozhkan_remove_below(ws: &mut [u64], id: u32, value: i32) -> u64
+pub fn pirozhkan_remove_below(ws: &mut [u64], id: u32, value: i32) -> u64
     ensures { left {C = List ℕ} result ws.new ≡ through (closing below id value) ws.old }
 {
     close(ws, Kind::Below, id, value)
 }
 
-#[unsafe(no_mangle)]
-pub extern "C" fn pirozhkan_remove_above(ws: &mut [u64], id: u32, value: i32) -> u64
+pub fn pirozhkan_remove_above(ws: &mut [u64], id: u32, value: i32) -> u64
     ensures { left {C = List ℕ} result ws.new ≡ through (closing above id value) ws.old }
 {
     close(ws, Kind::Above, id, value)
 }
 
-#[unsafe(no_mangle)]
-pub extern "C" fn pirozhkan_reset_changed_flag(ws: &mut [u64]) -> u64
+pub fn pirozhkan_reset_changed_flag(ws: &mut [u64]) -> u64
     ensures { left {C = List ℕ} result ws.new ≡ through resetting ws.old }
 {
     let why = reply::judge(ws);

@@ -5,8 +5,7 @@ ghost use Rattle.pirozhkan.specs.Calls.{marking, restoring, keeping};
 
 use super::inner;
 
-#[unsafe(no_mangle)]
-pub extern "C" fn pirozhkan_mark(ws: &mut [u64]) -> u64
+pub fn pirozhkan_mark(ws: &mut [u64]) -> u64
     ensures { left {C = List ℕ} result ws.new ≡ through marking ws.old }
 {
     let why = reply::judge(ws);
@@ -17,8 +16,7 @@ pub extern "C" fn pirozhkan_mark(ws: &mut [u64]) -> u64
     inner::settle(ws, trial::mark(b))
 }
 
-#[unsafe(no_mangle)]
-pub extern "C" fn pirozhkan_restore(ws: &mut [u64]) -> u64
+pub fn pirozhkan_restore(ws: &mut [u64]) -> u64
     ensures { left {C = List ℕ} result ws.new ≡ through restoring ws.old }
 {
     let why = reply::judge(ws);
@@ -29,8 +27,7 @@ pub extern "C" fn pirozhkan_restore(ws: &mut [u64]) -> u64
     inner::settle(ws, trial::restore(b))
 }
 
-#[unsafe(no_mangle)]
-pub extern "C" fn pirozhkan_keep(ws: &mut [u64]) -> u64
+pub fn pirozhkan_keep(ws: &mut [u64]) -> u64
     ensures { left {C = List ℕ} result ws.new ≡ through keeping ws.old }
 {
     let why = reply::judge(ws);

@@ -7,8 +7,7 @@ ghost use Rattle.pirozhkan_bit.specs.Calls.{whether_held, sizing, fixed_at, smal
 use super::inner;
 use rules::Value;
 
-#[unsafe(no_mangle)]
-pub extern "C" fn pirozhkan_bit_contains(ws: &[u64], value: i32) -> u64
+pub fn pirozhkan_bit_contains(ws: &[u64], value: i32) -> u64
     ensures { result ≡ answered (whether_held value) ws.now }
 {
     if ws.len() < inner::WORDS {
@@ -18,8 +17,7 @@ pub extern "C" fn pirozhkan_bit_contains(ws: &[u64], value: i32) -> u64
     reply::told(domain::contains(d, Value(value)))
 }
 
-#[unsafe(no_mangle)]
-pub extern "C" fn pirozhkan_bit_size(ws: &[u64]) -> u64
+pub fn pirozhkan_bit_size(ws: &[u64]) -> u64
     ensures { result ≡ answered sizing ws.now }
 {
     if ws.len() < inner::WORDS {
@@ -29,8 +27,7 @@ pub extern "C" fn pirozhkan_bit_size(ws: &[u64]) -> u64
     reply::counted(domain::size(d))
 }
 
-#[unsafe(no_mangle)]
-pub extern "C" fn pirozhkan_bit_fixed_value(ws: &[u64]) -> u64
+pub fn pirozhkan_bit_fixed_value(ws: &[u64]) -> u64
     ensures { result ≡ answered fixed_at ws.now }
 {
     if ws.len() < inner::WORDS {
@@ -40,8 +37,7 @@ pub extern "C" fn pirozhkan_bit_fixed_value(ws: &[u64]) -> u64
     reply::found(domain::fixed_value(d))
 }
 
-#[unsafe(no_mangle)]
-pub extern "C" fn pirozhkan_bit_min(ws: &[u64]) -> u64
+pub fn pirozhkan_bit_min(ws: &[u64]) -> u64
     ensures { result ≡ answered smallest ws.now }
 {
     if ws.len() < inner::WORDS {
@@ -51,8 +47,7 @@ pub extern "C" fn pirozhkan_bit_min(ws: &[u64]) -> u64
     reply::found(domain::min(d))
 }
 
-#[unsafe(no_mangle)]
-pub extern "C" fn pirozhkan_bit_max(ws: &[u64]) -> u64
+pub fn pirozhkan_bit_max(ws: &[u64]) -> u64
     ensures { result ≡ answered largest ws.now }
 {
     if ws.len() < inner::WORDS {
@@ -62,8 +57,7 @@ pub extern "C" fn pirozhkan_bit_max(ws: &[u64]) -> u64
     reply::found(domain::max(d))
 }
 
-#[unsafe(no_mangle)]
-pub extern "C" fn pirozhkan_bit_values(ws: &[u64], cells: &mut [i32]) -> u64
+pub fn pirozhkan_bit_values(ws: &[u64], cells: &mut [i32]) -> u64
     ensures { left {C = List ℤ} result cells.new ≡ shown (values_into cells.old) ws.now cells.old }
 {
     if ws.len() < inner::WORDS {
@@ -73,8 +67,7 @@ pub extern "C" fn pirozhkan_bit_values(ws: &[u64], cells: &mut [i32]) -> u64
     reply::counted(domain_values::to_vec(d, cells))
 }
 
-#[unsafe(no_mangle)]
-pub extern "C" fn pirozhkan_bit_text(ws: &[u64], cells: &mut [u8]) -> u64
+pub fn pirozhkan_bit_text(ws: &[u64], cells: &mut [u8]) -> u64
     ensures { left {C = List ℕ} result cells.new ≡ shown (text_into cells.old) ws.now cells.old }
 {
     if ws.len() < inner::WORDS {

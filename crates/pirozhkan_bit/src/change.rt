@@ -8,8 +8,7 @@ ghost use Rattle.pirozhkan_bit.specs.Calls.{inserting, removing, emptying, closi
 use super::inner;
 use rules::Value;
 
-#[unsafe(no_mangle)]
-pub extern "C" fn pirozhkan_bit_insert(ws: &mut [u64], value: i32) -> u64
+pub fn pirozhkan_bit_insert(ws: &mut [u64], value: i32) -> u64
     ensures { left {C = List ℕ} result ws.new ≡ through (inserting value) ws.old }
 {
     if ws.len() < inner::WORDS {
@@ -19,8 +18,7 @@ pub extern "C" fn pirozhkan_bit_insert(ws: &mut [u64], value: i32) -> u64
     inner::change(ws, domain::insert(d, Value(value)))
 }
 
-#[unsafe(no_mangle)]
-pub extern "C" fn pirozhkan_bit_remove(ws: &mut [u64], value: i32) -> u64
+pub fn pirozhkan_bit_remove(ws: &mut [u64], value: i32) -> u64
     ensures { left {C = List ℕ} result ws.new ≡ through (removing value) ws.old }
 {
     if ws.len() < inner::WORDS {
@@ -30,8 +28,7 @@ pub extern "C" fn pirozhkan_bit_remove(ws: &mut [u64], value: i32) -> u64
     inner::change(ws, domain::remove(d, Value(value)))
 }
 
-#[unsafe(no_mangle)]
-pub extern "C" fn pirozhkan_bit_remove_all(ws: &mut [u64]) -> u64
+pub fn pirozhkan_bit_remove_all(ws: &mut [u64]) -> u64
     ensures { left {C = List ℕ} result ws.new ≡ through emptying ws.old }
 {
     if ws.len() < inner::WORDS {
@@ -41,8 +38,7 @@ pub extern "C" fn pirozhkan_bit_remove_all(ws: &mut [u64]) -> u64
     inner::narrow(ws, domain::remove_all(d))
 }
 
-#[unsafe(no_mangle)]
-pub extern "C" fn pirozhkan_bit_remove_all_but(ws: &mut [u64], value: i32) -> u64
+pub fn pirozhkan_bit_remove_all_but(ws: &mut [u64], value: i32) -> u64
     ensures { left {C = List ℕ} result ws.new ≡ through (closing assign value) ws.old }
 {
     if ws.len() < inner::WORDS {
@@ -52,8 +48,7 @@ pub extern "C" fn pirozhkan_bit_remove_all_but(ws: &mut [u64], value: i32) -> u6
     inner::narrow(ws, domain::remove_all_but(d, Value(value)))
 }
 
-#[unsafe(no_mangle)]
-pub extern "C" fn pirozhkan_bit_remove_below(ws: &mut [u64], value: i32) -> u64
+pub fn pirozhkan_bit_remove_below(ws: &mut [u64], value: i32) -> u64
     ensures { left {C = List ℕ} result ws.new ≡ through (closing below value) ws.old }
 {
     if ws.len() < inner::WORDS {
@@ -63,8 +58,7 @@ pub extern "C" fn pirozhkan_bit_remove_below(ws: &mut [u64], value: i32) -> u64
     inner::narrow(ws, domain::remove_below(d, Value(value)))
 }
 
-#[unsafe(no_mangle)]
-pub extern "C" fn pirozhkan_bit_remove_above(ws: &mut [u64], value: i32) -> u64
+pub fn pirozhkan_bit_remove_above(ws: &mut [u64], value: i32) -> u64
     ensures { left {C = List ℕ} result ws.new ≡ through (closing above value) ws.old }
 {
     if ws.len() < inner::WORDS {

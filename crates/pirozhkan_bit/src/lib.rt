@@ -1,4 +1,4 @@
-// The library's calls on a bit domain: exported functions on numbers and slices, over three words that the caller lends.
+// The library's calls on a bit domain, on numbers and slices, over three words that the caller lends; `pirozhkan_bit_c` exports them.
 //
 // make: pirozhkan_bit_new, pirozhkan_bit_new_empty, pirozhkan_bit_new_from_values
 // change: pirozhkan_bit_insert, pirozhkan_bit_remove, pirozhkan_bit_remove_all, pirozhkan_bit_remove_all_but,

@@ -20,23 +20,20 @@ fn begin(ws: &mut [u64], d: BitDomain) -> u64
 }
 
 // The values from min to max, all held; over 128 of them, the domain of none.
-#[unsafe(no_mangle)]
-pub extern "C" fn pirozhkan_bit_new(ws: &mut [u64], min: i32, max: i32) -> u64
+pub fn pirozhkan_bit_new(ws: &mut [u64], min: i32, max: i32) -> u64
     ensures { left {C = List ℕ} result ws.new ≡ begun (between true min max) ws.old }
 {
     begin(ws, domain::new(Value(min), Value(max)))
 }
 
 // The same universe, and nothing held.
-#[unsafe(no_mangle)]
-pub extern "C" fn pirozhkan_bit_new_empty(ws: &mut [u64], min: i32, max: i32) -> u64
+pub fn pirozhkan_bit_new_empty(ws: &mut [u64], min: i32, max: i32) -> u64
     ensures { left {C = List ℕ} result ws.new ≡ begun (between false min max) ws.old }
 {
     begin(ws, domain::new_empty(Value(min), Value(max)))
 }
 
-#[unsafe(no_mangle)]
-pub extern "C" fn pirozhkan_bit_new_from_values(ws: &mut [u64], values: &[i32]) -> u64
+pub fn pirozhkan_bit_new_from_values(ws: &mut [u64], values: &[i32]) -> u64
     ensures { left {C = List ℕ} result ws.new ≡ begun (from_values_of values.now) ws.old }
 {
     begin(ws, domain_values::new_from_values(values))

@@ -8,8 +8,7 @@ use super::inner;
 use rules::{Refusal, Value};
 use sparse::Kept;
 
-#[unsafe(no_mangle)]
-pub extern "C" fn pirozhkan_sparse_contains(ws: &[u32], ind: &[u32], val: &[u32], value: i32) -> u64
+pub fn pirozhkan_sparse_contains(ws: &[u32], ind: &[u32], val: &[u32], value: i32) -> u64
     ensures { result ≡ answered (whether_held value) (cells ws.now ind.now val.now) }
 {
     if ws.len() < inner::CELLS {
@@ -19,8 +18,7 @@ pub extern "C" fn pirozhkan_sparse_contains(ws: &[u32], ind: &[u32], val: &[u32]
     inner::told(sparse::contains(s, ind, val, Value(value)))
 }
 
-#[unsafe(no_mangle)]
-pub extern "C" fn pirozhkan_sparse_size(ws: &[u32], ind: &[u32], val: &[u32]) -> u64
+pub fn pirozhkan_sparse_size(ws: &[u32], ind: &[u32], val: &[u32]) -> u64
     ensures { result ≡ answered sizing (cells ws.now ind.now val.now) }
 {
     if ws.len() < inner::CELLS {
@@ -30,8 +28,7 @@ pub extern "C" fn pirozhkan_sparse_size(ws: &[u32], ind: &[u32], val: &[u32]) ->
     inner::counted(sparse::size(s, ind, val))
 }
 
-#[unsafe(no_mangle)]
-pub extern "C" fn pirozhkan_sparse_min(ws: &[u32], ind: &[u32], val: &[u32]) -> u64
+pub fn pirozhkan_sparse_min(ws: &[u32], ind: &[u32], val: &[u32]) -> u64
     ensures { result ≡ answered smallest (cells ws.now ind.now val.now) }
 {
     if ws.len() < inner::CELLS {
@@ -41,8 +38,7 @@ pub extern "C" fn pirozhkan_sparse_min(ws: &[u32], ind: &[u32], val: &[u32]) -> 
     inner::found(sparse::min(s, ind, val))
 }
 
-#[unsafe(no_mangle)]
-pub extern "C" fn pirozhkan_sparse_max(ws: &[u32], ind: &[u32], val: &[u32]) -> u64
+pub fn pirozhkan_sparse_max(ws: &[u32], ind: &[u32], val: &[u32]) -> u64
     ensures { result ≡ answered largest (cells ws.now ind.now val.now) }
 {
     if ws.len() < inner::CELLS {
@@ -52,13 +48,7 @@ pub extern "C" fn pirozhkan_sparse_max(ws: &[u32], ind: &[u32], val: &[u32]) -> 
     inner::found(sparse::max(s, ind, val))
 }
 
-#[unsafe(no_mangle)]
-pub extern "C" fn pirozhkan_sparse_values(
-    ws: &[u32],
-    ind: &[u32],
-    val: &[u32],
-    out: &mut [i32],
-) -> u64
+pub fn pirozhkan_sparse_values(ws: &[u32], ind: &[u32], val: &[u32], out: &mut [i32]) -> u64
     ensures { left {C = List ℤ} result out.new ≡ shown (values_into out.old) (cells ws.now ind.now val.now) out.old }
 {
     if ws.len() < inner::CELLS {
@@ -68,8 +58,7 @@ pub extern "C" fn pirozhkan_sparse_values(
     inner::counted(sparse_values::to_vec(s, ind, val, out))
 }
 
-#[unsafe(no_mangle)]
-pub extern "C" fn pirozhkan_sparse_text(ws: &[u32], ind: &[u32], val: &[u32], out: &mut [u8]) -> u64
+pub fn pirozhkan_sparse_text(ws: &[u32], ind: &[u32], val: &[u32], out: &mut [u8]) -> u64
     ensures { left {C = List ℕ} result out.new ≡ shown (text_into out.old) (cells ws.now ind.now val.now) out.old }
 {
     if ws.len() < inner::CELLS {
@@ -97,13 +86,7 @@ fn put_kept(k: Kept, out: &mut [u32]) -> u64
     }
 }
 
-#[unsafe(no_mangle)]
-pub extern "C" fn pirozhkan_sparse_save_state(
-    ws: &[u32],
-    ind: &[u32],
-    val: &[u32],
-    out: &mut [u32],
-) -> u64
+pub fn pirozhkan_sparse_save_state(ws: &[u32], ind: &[u32], val: &[u32], out: &mut [u32]) -> u64
     ensures { left {C = List ℕ} result out.new ≡ shown (saving_into out.old) (cells ws.now ind.now val.now) out.old }
 {
     if ws.len() < inner::CELLS {

@@ -8,13 +8,7 @@ use super::inner;
 use rules::Value;
 use sparse_inner::SparseState;
 
-#[unsafe(no_mangle)]
-pub extern "C" fn pirozhkan_sparse_remove(
-    ws: &mut [u32],
-    ind: &mut [u32],
-    val: &mut [u32],
-    value: i32,
-) -> u64
+pub fn pirozhkan_sparse_remove(ws: &mut [u32], ind: &mut [u32], val: &mut [u32], value: i32) -> u64
     ensures { left {C = Cells} result (cells ws.new ind.new val.new) ≡ through (removing value) (cells ws.old ind.old val.old) }
 {
     if ws.len() < inner::CELLS {
@@ -24,8 +18,7 @@ pub extern "C" fn pirozhkan_sparse_remove(
     inner::change(ws, sparse::remove(s, ind, val, Value(value)))
 }
 
-#[unsafe(no_mangle)]
-pub extern "C" fn pirozhkan_sparse_remove_all(ws: &mut [u32], ind: &[u32], val: &[u32]) -> u64
+pub fn pirozhkan_sparse_remove_all(ws: &mut [u32], ind: &[u32], val: &[u32]) -> u64
     ensures { left {C = Cells} result (cells ws.new ind.now val.now) ≡ through emptying (cells ws.old ind.now val.now) }
 {
     if ws.len() < inner::CELLS {
@@ -35,8 +28,7 @@ pub extern "C" fn pirozhkan_sparse_remove_all(ws: &mut [u32], ind: &[u32], val: 
     inner::narrow(ws, sparse::remove_all(s, ind, val))
 }
 
-#[unsafe(no_mangle)]
-pub extern "C" fn pirozhkan_sparse_remove_all_but(
+pub fn pirozhkan_sparse_remove_all_but(
     ws: &mut [u32],
     ind: &mut [u32],
     val: &mut [u32],
@@ -51,8 +43,7 @@ pub extern "C" fn pirozhkan_sparse_remove_all_but(
     inner::narrow(ws, sparse::remove_all_but(s, ind, val, Value(value)))
 }
 
-#[unsafe(no_mangle)]
-pub extern "C" fn pirozhkan_sparse_remove_below(
+pub fn pirozhkan_sparse_remove_below(
     ws: &mut [u32],
     ind: &mut [u32],
     val: &mut [u32],
@@ -67,8 +58,7 @@ pub extern "C" fn pirozhkan_sparse_remove_below(
     inner::narrow(ws, sparse::remove_below(s, ind, val, Value(value)))
 }
 
-#[unsafe(no_mangle)]
-pub extern "C" fn pirozhkan_sparse_remove_above(
+pub fn pirozhkan_sparse_remove_above(
     ws: &mut [u32],
     ind: &mut [u32],
     val: &mut [u32],
@@ -84,8 +74,7 @@ pub extern "C" fn pirozhkan_sparse_remove_above(
 }
 
 // A state that was saved: its size and its bounds.
-#[unsafe(no_mangle)]
-pub extern "C" fn pirozhkan_sparse_restore_state(
+pub fn pirozhkan_sparse_restore_state(
     ws: &mut [u32],
     ind: &[u32],
     val: &[u32],

@@ -1,5 +1,5 @@
-// The library's calls on a sparse set: exported functions on numbers and slices, over five cells of state and two orderings that the
-// caller lends.
+// The library's calls on a sparse set, on numbers and slices, over five cells of state and two orderings that the caller lends;
+// `pirozhkan_sparse_c` exports them.
 //
 // make: pirozhkan_sparse_new, pirozhkan_sparse_new_from_values
 // change: pirozhkan_sparse_remove, pirozhkan_sparse_remove_all, pirozhkan_sparse_remove_all_but, pirozhkan_sparse_remove_below,

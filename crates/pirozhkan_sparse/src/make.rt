@@ -9,8 +9,7 @@ use super::inner;
 use rules::Value;
 
 // The values from min to max, all held; the ends in either order.
-#[unsafe(no_mangle)]
-pub extern "C" fn pirozhkan_sparse_new(
+pub fn pirozhkan_sparse_new(
     ws: &mut [u32],
     ind: &mut [u32],
     val: &mut [u32],
@@ -26,8 +25,7 @@ pub extern "C" fn pirozhkan_sparse_new(
 }
 
 // The universe from the smallest value to the largest, of which these are held.
-#[unsafe(no_mangle)]
-pub extern "C" fn pirozhkan_sparse_new_from_values(
+pub fn pirozhkan_sparse_new_from_values(
     ws: &mut [u32],
     ind: &mut [u32],
     val: &mut [u32],

@@ -7,8 +7,7 @@ ghost use Rattle.pirozhkan_sparse.specs.Calls.{uniting};
 
 use super::inner;
 
-#[unsafe(no_mangle)]
-pub extern "C" fn pirozhkan_sparse_intersect_with(
+pub fn pirozhkan_sparse_intersect_with(
     ws: &mut [u32],
     ind: &mut [u32],
     val: &mut [u32],
@@ -33,8 +32,7 @@ pub extern "C" fn pirozhkan_sparse_intersect_with(
     )
 }
 
-#[unsafe(no_mangle)]
-pub extern "C" fn pirozhkan_sparse_diff_with(
+pub fn pirozhkan_sparse_diff_with(
     ws: &mut [u32],
     ind: &mut [u32],
     val: &mut [u32],
@@ -59,8 +57,7 @@ pub extern "C" fn pirozhkan_sparse_diff_with(
     )
 }
 
-#[unsafe(no_mangle)]
-pub extern "C" fn pirozhkan_sparse_union_with(
+pub fn pirozhkan_sparse_union_with(
     ws: &mut [u32],
     ind: &mut [u32],
     val: &mut [u32],

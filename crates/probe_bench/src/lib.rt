@@ -1,5 +1,5 @@
-// A loop over each call that is timed, exported for the comparison's `speed`. The domain or the domains go in as numbers, and
-// what comes out is a sum of the answers, so that no turn can be left out.
+// A loop over each call that is timed, for the comparison's `speed`; `probe_bench_c` exports them. The domain or the domains go in as numbers,
+// and what comes out is a sum of the answers, so that no turn can be left out.
 //
 // It is a crate of its own so that each call has one caller here, as in a program that works with domains in one place.
 #![tactic(auto)]
@@ -65,8 +65,7 @@ fn plus(a: u64, b: u64) -> u64 {
     std::num::wrapping_add_u64(a, b)
 }
 
-#[unsafe(no_mangle)]
-pub extern "C" fn bench_remove(lo: u64, hi: u64, min: i32, max: i32, values: &[i32]) -> u64 {
+pub fn bench_remove(lo: u64, hi: u64, min: i32, max: i32, values: &[i32]) -> u64 {
     let mut d = domain_of(lo, hi, min, max);
     let mut sum: u64 = 0;
     let mut i = 0;
@@ -80,8 +79,7 @@ pub extern "C" fn bench_remove(lo: u64, hi: u64, min: i32, max: i32, values: &[i
     sum ^ bits(d)
 }
 
-#[unsafe(no_mangle)]
-pub extern "C" fn bench_insert(lo: u64, hi: u64, min: i32, max: i32, values: &[i32]) -> u64 {
+pub fn bench_insert(lo: u64, hi: u64, min: i32, max: i32, values: &[i32]) -> u64 {
     let mut d = domain_of(lo, hi, min, max);
     let mut sum: u64 = 0;
     let mut i = 0;
@@ -95,8 +93,7 @@ pub extern "C" fn bench_insert(lo: u64, hi: u64, min: i32, max: i32, values: &[i
     sum ^ bits(d)
 }
 
-#[unsafe(no_mangle)]
-pub extern "C" fn bench_remove_below(lo: u64, hi: u64, min: i32, max: i32, values: &[i32]) -> u64 {
+pub fn bench_remove_below(lo: u64, hi: u64, min: i32, max: i32, values: &[i32]) -> u64 {
     let mut d = domain_of(lo, hi, min, max);
     let mut sum: u64 = 0;
     let mut i = 0;
@@ -110,8 +107,7 @@ pub extern "C" fn bench_remove_below(lo: u64, hi: u64, min: i32, max: i32, value
     sum ^ bits(d)
 }
 
-#[unsafe(no_mangle)]
-pub extern "C" fn bench_remove_above(lo: u64, hi: u64, min: i32, max: i32, values: &[i32]) -> u64 {
+pub fn bench_remove_above(lo: u64, hi: u64, min: i32, max: i32, values: &[i32]) -> u64 {
     let mut d = domain_of(lo, hi, min, max);
     let mut sum: u64 = 0;
     let mut i = 0;
@@ -126,14 +122,7 @@ pub extern "C" fn bench_remove_above(lo: u64, hi: u64, min: i32, max: i32, value
 }
 
 // Each value on the domain as it came, since the first would leave little of it.
-#[unsafe(no_mangle)]
-pub extern "C" fn bench_remove_all_but(
-    lo: u64,
-    hi: u64,
-    min: i32,
-    max: i32,
-    values: &[i32],
-) -> u64 {
+pub fn bench_remove_all_but(lo: u64, hi: u64, min: i32, max: i32, values: &[i32]) -> u64 {
     let d = domain_of(lo, hi, min, max);
     let mut sum: u64 = 0;
     let mut i = 0;
@@ -147,8 +136,7 @@ pub extern "C" fn bench_remove_all_but(
     sum
 }
 
-#[unsafe(no_mangle)]
-pub extern "C" fn bench_contains(lo: u64, hi: u64, min: i32, max: i32, values: &[i32]) -> u64 {
+pub fn bench_contains(lo: u64, hi: u64, min: i32, max: i32, values: &[i32]) -> u64 {
     let d = domain_of(lo, hi, min, max);
     let mut sum: u64 = 0;
     let mut i = 0;
@@ -183,8 +171,7 @@ fn at(lo: &[u64], hi: &[u64], min: &[i32], max: &[i32], j: usize) -> BitDomain
 }
 
 // Another domain for each value, so that the test of a domain can't be made once for all of them.
-#[unsafe(no_mangle)]
-pub extern "C" fn bench_contains_each(
+pub fn bench_contains_each(
     lo: &[u64],
     hi: &[u64],
     min: &[i32],
@@ -207,8 +194,7 @@ pub extern "C" fn bench_contains_each(
     sum
 }
 
-#[unsafe(no_mangle)]
-pub extern "C" fn bench_size(lo: &[u64], hi: &[u64], min: &[i32], max: &[i32]) -> u64 {
+pub fn bench_size(lo: &[u64], hi: &[u64], min: &[i32], max: &[i32]) -> u64 {
     let n = domains(lo, hi, min, max);
     let mut sum: u64 = 0;
     let mut j = 0;
@@ -219,8 +205,7 @@ pub extern "C" fn bench_size(lo: &[u64], hi: &[u64], min: &[i32], max: &[i32]) -
     sum
 }
 
-#[unsafe(no_mangle)]
-pub extern "C" fn bench_min(lo: &[u64], hi: &[u64], min: &[i32], max: &[i32]) -> u64 {
+pub fn bench_min(lo: &[u64], hi: &[u64], min: &[i32], max: &[i32]) -> u64 {
     let n = domains(lo, hi, min, max);
     let mut sum: u64 = 0;
     let mut j = 0;
@@ -231,8 +216,7 @@ pub extern "C" fn bench_min(lo: &[u64], hi: &[u64], min: &[i32], max: &[i32]) ->
     sum
 }
 
-#[unsafe(no_mangle)]
-pub extern "C" fn bench_max(lo: &[u64], hi: &[u64], min: &[i32], max: &[i32]) -> u64 {
+pub fn bench_max(lo: &[u64], hi: &[u64], min: &[i32], max: &[i32]) -> u64 {
     let n = domains(lo, hi, min, max);
     let mut sum: u64 = 0;
     let mut j = 0;
@@ -243,8 +227,7 @@ pub extern "C" fn bench_max(lo: &[u64], hi: &[u64], min: &[i32], max: &[i32]) ->
     sum
 }
 
-#[unsafe(no_mangle)]
-pub extern "C" fn bench_is_fixed(lo: &[u64], hi: &[u64], min: &[i32], max: &[i32]) -> u64 {
+pub fn bench_is_fixed(lo: &[u64], hi: &[u64], min: &[i32], max: &[i32]) -> u64 {
     let n = domains(lo, hi, min, max);
     let mut sum: u64 = 0;
     let mut j = 0;
@@ -284,8 +267,7 @@ fn walk(d: BitDomain) -> u64 {
     sum
 }
 
-#[unsafe(no_mangle)]
-pub extern "C" fn bench_iter(lo: &[u64], hi: &[u64], min: &[i32], max: &[i32]) -> u64 {
+pub fn bench_iter(lo: &[u64], hi: &[u64], min: &[i32], max: &[i32]) -> u64 {
     let n = domains(lo, hi, min, max);
     let mut sum: u64 = 0;
     let mut j = 0;
@@ -297,14 +279,7 @@ pub extern "C" fn bench_iter(lo: &[u64], hi: &[u64], min: &[i32], max: &[i32]) -
 }
 
 // The values of each domain into the same cells.
-#[unsafe(no_mangle)]
-pub extern "C" fn bench_to_vec(
-    lo: &[u64],
-    hi: &[u64],
-    min: &[i32],
-    max: &[i32],
-    cells: &mut [i32],
-) -> u64 {
+pub fn bench_to_vec(lo: &[u64], hi: &[u64], min: &[i32], max: &[i32], cells: &mut [i32]) -> u64 {
     let n = domains(lo, hi, min, max);
     let mut sum: u64 = 0;
     let mut j = 0;

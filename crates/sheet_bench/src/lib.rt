@@ -1,4 +1,5 @@
-// The reading of a sheet, exported for the comparison's `speed`. What comes out is made of rows that the caller picks, so that none can be left out.
+// The reading of a sheet, for the comparison's `speed`; `sheet_bench_c` exports it. What comes out is made of rows that the caller picks, so
+// that none can be left out.
 #![tactic(auto)]
 
 use closing::Kind;
@@ -21,8 +22,7 @@ fn kind(k: Kind) -> u64 {
     }
 }
 
-#[unsafe(no_mangle)]
-pub extern "C" fn bench_read(text: &[u8], pick: usize) -> u64 {
+pub fn bench_read(text: &[u8], pick: usize) -> u64 {
     let r = sheet::read_sheet(text);
     let end = r.end;
     match end {

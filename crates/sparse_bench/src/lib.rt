@@ -1,5 +1,5 @@
-// The sparse calls that are timed, exported for the comparison's `speed`. A set goes in as numbers and lent orderings, and what comes out
-// is a sum of the answers, so that no turn can be left out.
+// The sparse calls that are timed, for the comparison's `speed`; `sparse_bench_c` exports them. A set goes in as numbers and lent orderings,
+// and what comes out is a sum of the answers, so that no turn can be left out.
 //
 // bench_sparse_contains, bench_sparse_remove: one test of the set, then a turn of the inner work for each value.
 // bench_sparse_call: one checked call, by the number that it has in scripts. bench_sparse_from_values: new_from_values.
@@ -57,8 +57,7 @@ fn held(s: Sparse, ind: &[u32], val: &[u32], values: &[i32]) -> u64
     sum
 }
 
-#[unsafe(no_mangle)]
-pub extern "C" fn bench_sparse_contains(
+pub fn bench_sparse_contains(
     off: i32,
     n: u32,
     size: u32,
@@ -94,8 +93,7 @@ fn removed(s: Sparse, ind: &mut [u32], val: &mut [u32], values: &[i32]) -> u64
     folded(cur)
 }
 
-#[unsafe(no_mangle)]
-pub extern "C" fn bench_sparse_remove(
+pub fn bench_sparse_remove(
     off: i32,
     n: u32,
     size: u32,
@@ -146,8 +144,7 @@ fn min_of(s: Sparse, ind: &[u32], val: &[u32]) -> u64 {
     }
 }
 
-#[unsafe(no_mangle)]
-pub extern "C" fn bench_sparse_call(
+pub fn bench_sparse_call(
     op: u64,
     off: i32,
     n: u32,
@@ -175,12 +172,7 @@ pub extern "C" fn bench_sparse_call(
     }
 }
 
-#[unsafe(no_mangle)]
-pub extern "C" fn bench_sparse_from_values(
-    values: &[i32],
-    ind: &mut [u32],
-    val: &mut [u32],
-) -> u64 {
+pub fn bench_sparse_from_values(values: &[i32], ind: &mut [u32], val: &mut [u32]) -> u64 {
     match sparse_make::new_from_values(values, ind, val) {
         Made::Set(s) => folded(s),
         Made::Refused(_) => 1000,
