@@ -37,28 +37,20 @@ fn room() -> [u8; 32769]
     [0; 32769]
 }
 
-// How many bytes were read, to the input's end or as many as sheet has. A read that a signal interrupts is tried again.
+// How many bytes were read, to the input's end or as many as sheet has.
 fn read_sheet<R: Read>(input: &mut R, sheet: &mut [u8]) -> io::Result<usize>
     ensures within { IfOk result (λ n. n ≤ length sheet.new) }
     ensures bytes { IfOk result
         (λ n. IfSome (R.remaining input.old) (λ xs. take n sheet.new ≡ take (length sheet.old) xs)) }
 {
     let mut at = 0;
-    for _ in 0..u64::MAX {
-        if at >= sheet.len() {
-            return Ok(at);
-        }
-        match input.read(&mut sheet[at..]) {
-            Ok(0) => return Ok(at),
-            Ok(n) => at += n,
-            Err(e) => {
-                if e.kind() != ErrorKind::Interrupted {
-                    return Err(e);
-                }
-            }
+    while at < sheet.len() {
+        match input.read(&mut sheet[at..])? {
+            0 => return Ok(at),
+            n => at += n,
         }
     }
-    Err(Error::from(ErrorKind::TimedOut))
+    Ok(at)
 }
 
 // How many bytes of out hold the text. With MOST bytes lent the wave is never refused.
