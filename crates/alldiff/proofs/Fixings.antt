@@ -2,7 +2,7 @@
 use Rattle.std.specs.Prelude.{◌≡◌, true, false, List, ℕ, suc, ◌<◌, T, ℤ, pos, ◌+ℤ◌, get_or}
 use Rattle.std.specs.Int.Bits.{bit_and, bit_or}
 use Rattle.std.specs.Int.Count.{ones}
-use Rattle.std.proofs.Common.{sym, ◌∙◌, subst, inl, inr, ⊎_elim, not-suc-le-zero, arith, eqb-true, ne_eqb, eq-eqb}
+use Rattle.std.proofs.Common.{sym, ◌∙◌, subst, inl, inr, ⊎_elim, arith, eqb-true, ne_eqb, eq-eqb}
 use Rattle.std.proofs.Math.Decide.{ℕ_discrete}
 use Rattle.mask.specs.Bit.{has-lowest}
 use Rattle.mask.specs.Val.{val}
@@ -21,14 +21,7 @@ use Rattle.alldiff.proofs.Together.{none-assigned, together}
 
 -- ---- place by place
 
-pub fixing-none : (ws : List ℕ) → Fixing ws 0 0
-fixing-none ws = record {
-  every = λ p k h. absurd (not-suc-le-zero h);
-  from = λ k i. absurd (in-none k i);
-  apart = λ p q k h. absurd (not-suc-le-zero h);
-}
-
-module _ (ws : List ℕ) (p s : ℕ) (f : Fixing ws p s) where
+module _ (ws : List Mask) (p s : ℕ) (f : Fixing ws p s) where
   -- a place that isn't assigned
   pub fixing-over : (One ws p → ⊥) → Fixing ws (suc p) s
   fixing-over no_one = record { every = every; from = from; apart = apart }
@@ -81,7 +74,7 @@ module _ (ws : List ℕ) (p s : ℕ) (f : Fixing ws p s) where
 
 -- ---- in step 1
 
-module _ (mins : List ℤ) (ws : List ℕ) (n : ℕ) (u : Mask) (f : Fixing ws n (val u)) where
+module _ (mins : List ℤ) (ws : List Mask) (n : ℕ) (u : Mask) (f : Fixing ws n (val u)) where
   is_one : (p : ℕ) → p < n → get_or (assigned ws n) p false ≡ true → One ws p
   is_one p h e = eqb-true (ones (val (mask_at ws p))) 1 (sym (assigned-at ws n p h) ∙ e)
 

@@ -1,5 +1,5 @@
 -- Step 1 is a chain over the places, in list order: a place that isn't assigned at entry is idle. Assumes nothing.
-use Rattle.std.specs.Prelude.{◌≡◌, refl, true, false, List, [], ◌∷◌, map, ℕ, zero, suc, ◌-◌, ◌^◌, ◌<◌, ◌≤◌, eqb, ℤ, pos, ◌+ℤ◌, length, get_or}
+use Rattle.std.specs.Prelude.{◌≡◌, refl, true, false, List, [], ◌∷◌, map, ℕ, zero, suc, ◌-◌, ◌^◌, ◌<◌, eqb, ℤ, pos, ◌+ℤ◌, length, get_or}
 use Rattle.std.specs.Int.Count.{ones}
 use Rattle.std.proofs.Common.{sym, ap, ◌∙◌, subst, arith}
 use Rattle.std.proofs.Math.Nat.{sub-zero}
@@ -35,9 +35,6 @@ places n p = count_up p (n - p)
 pub places-more : (n p : ℕ) → p < n → places n p ≡ p ∷ places n (suc p)
 places-more n p h = let e : n - p ≡ suc (n - suc p) = omega arith in ap (count_up p) e
 
-pub places-end : (n p : ℕ) → n ≤ p → places n p ≡ []
-places-end n p h = let e : n - p ≡ 0 = omega arith in ap (count_up p) e
-
 -- ---- a place
 
 abbrev pub visit : List Chutes → ℕ → List Chutes → Swept
@@ -50,7 +47,7 @@ step1-places ds n e =
     ∙ chain-map (only (length ds)) (noted ds) (up_to (length ds)) ds
     ∙ ap (λ (ps : List ℕ). chain (visit ds) ps ds) (up-count (length ds) ∙ ap (count_up 0) (e ∙ sym (sub-zero n)))
 
-module _ (mins : List ℤ) (ws : List ℕ) (n p : ℕ) (h : p < n) (es : List Chutes) where
+module _ (mins : List ℤ) (ws : List Mask) (n p : ℕ) (h : p < n) (es : List Chutes) where
   abbrev ds : List Chutes
   ds = listed mins ws n
 
@@ -80,10 +77,10 @@ one_value lo m k e p =
     ap (map (λ j. lo +ℤ pos j)) (members-first (val m) k p ∙ ap {B = List ℕ} (λ x. k ∷ members x) z ∙ ap {B = List ℕ} (λ l. k ∷ l) members-none)
 
 -- of a place that is assigned at entry
-pub value_of : (mins : List ℤ) (ws : List ℕ) (p : ℕ) (m : Mask) (k : ℕ) (v : ℤ) → m ≡ mask_at ws p → ones (val m) ≡ 1 → Lowest (val m) k → v ≡ get_or mins p (pos 0) +ℤ pos k → domain_at mins ws p ≡ v ∷ []
+pub value_of : (mins : List ℤ) (ws : List Mask) (p : ℕ) (m : Mask) (k : ℕ) (v : ℤ) → m ≡ mask_at ws p → ones (val m) ≡ 1 → Lowest (val m) k → v ≡ get_or mins p (pos 0) +ℤ pos k → domain_at mins ws p ≡ v ∷ []
 value_of mins ws p m k v e o l q =
     ap (values_of (get_or mins p (pos 0))) (sym e) ∙ one_value (get_or mins p (pos 0)) m k o l ∙ ap {B = Chutes} (λ x. x ∷ []) (sym q)
 
 -- of one that isn't
-pub not-one : (mins : List ℤ) (ws : List ℕ) (p : ℕ) (m : Mask) → m ≡ mask_at ws p → eqb (ones (val m)) 1 ≡ false → eqb (length (domain_at mins ws p)) 1 ≡ false
+pub not-one : (mins : List ℤ) (ws : List Mask) (p : ℕ) (m : Mask) → m ≡ mask_at ws p → eqb (ones (val m)) 1 ≡ false → eqb (length (domain_at mins ws p)) 1 ≡ false
 not-one mins ws p m e o = ap (λ (n : ℕ). eqb n 1) (size-ones (get_or mins p (pos 0)) (mask_at ws p) ∙ ap (λ (x : Mask). ones (val x)) (sym e)) ∙ o

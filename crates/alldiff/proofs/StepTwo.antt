@@ -1,14 +1,15 @@
 -- Step 2 is a chain over the table: a subset is idle if it has a place beyond the list, or one with too many values. Assumes nothing.
-use Rattle.std.specs.Prelude.{◌≡◌, refl, Bool, true, false, cond, List, [], ◌∷◌, ◌⊎◌, ℕ, zero, suc, ◌+◌, ◌-◌, ◌^◌, ◌<◌, ◌≤◌, leb, ltb, ℤ, pos, length, get_or, drop}
-use Rattle.std.specs.Int.Bits.{bit_and, bit_or}
+use Rattle.std.specs.Prelude.{◌≡◌, refl, Bool, true, false, cond, List, [], ◌∷◌, ◌⊎◌, ℕ, zero, suc, ◌+◌, ◌^◌, ◌<◌, ◌≤◌, leb, ltb, ℤ, pos, length, get_or, drop}
+use Rattle.std.specs.Int.Bits.{bit_and, bit_or, and_zero_r}
 use Rattle.std.specs.Int.Count.{ones}
-use Rattle.std.proofs.Common.{sym, ap, ◌∙◌, subst, true≢false, inl, inr, suc-le-suc, le_refl, add-zero, suc-add, add-suc, le_of_suc-le-suc, not-suc-le-zero, zero-lt-suc, lt_of_lt_of_le, arith, drop_of_length-le, pow_mono, drop-cons, eqb-true, eq-eqb, le-leb, ltb-true, lt-ltb}
+use Rattle.std.proofs.Common.{sym, ap, ◌∙◌, subst, true≢false, inl, inr, suc-le-suc, le_of_suc-le-suc, not-suc-le-zero, zero-lt-suc, lt_of_lt_of_le, arith, drop_of_length-le, pow_mono, drop-cons, eqb-true, eq-eqb, le-leb, ltb-true, lt-ltb}
 use Rattle.std.proofs.Math.Decide.{ℕ_discrete}
 use Rattle.std.proofs.lemmas.Nat.{or_lt}
 use Rattle.std.proofs.Math.Pow.{pow-lt}
+use Rattle.mask.specs.declared.Mask.{Mask}
 use Rattle.mask.specs.Bit.{bit}
 use Rattle.mask.specs.Val.{val}
-use Rattle.mask.specs.Sets.{In, in-or, in_one, in-lt, fits_in, subset-in}
+use Rattle.mask.specs.Sets.{In, in-or, in_one, in-lt, fits_in, subset-in, ones_none}
 use Rattle.masks.specs.Cells.{mask_at}
 use Rattle.rules.specs.Sets.{Chutes, keep, union, Different}
 use Rattle.rules.specs.Pass.{Places, pick, rounds, Swept, still, sweep, next, chain, tight, present, step2}
@@ -19,16 +20,13 @@ use Rattle.domain.proofs.Ends.{size-ones}
 use Rattle.domain.proofs.Theorems.{values-ascend}
 use Rattle.sweep.specs.Listed.{listed, domain_at}
 use Rattle.sweep.proofs.Turns.{listed-length, listed_at, bits_at, sweep-unchanged}
-use Rattle.alldiff.specs.Choice.{Few, Within, Next}
-use Rattle.alldiff.proofs.Table.{size_few}
+use Rattle.alldiff.specs.Choice.{Few, Within}
+use Rattle.alldiff.proofs.Table.{size_few, size_some}
 use Rattle.alldiff.proofs.Tight.{pick-count}
 
 -- ---- the places with few values
 
-pub fit_none : (ws : List ℕ) → Few ws 0 0
-fit_none ws = (omega arith, λ q h l. absurd (not-suc-le-zero h))
-
-module _ (ws : List ℕ) (p fit : ℕ) (f : Few ws p fit) where
+module _ (ws : List Mask) (p fit : ℕ) (f : Few ws p fit) where
   -- the next place joins
   pub fit-more : Few ws (suc p) (bit_or fit (2 ^ p))
   fit-more = (or_lt (suc p) fit (2 ^ p) (lt_of_lt_of_le f.0 (pow_mono (omega arith))) (pow-lt (omega arith)), λ q h l. (in-or fit (2 ^ p) q).1 (go q l (ℕ_discrete q p) h))
@@ -77,7 +75,7 @@ pick-has (false ∷ m) (d ∷ ds) zero e h = absurd (true≢false (sym e))
 pick-has (true ∷ m) (d ∷ ds) (suc q) e h = let r = pick-has m ds q e (le_of_suc-le-suc h) in (suc r.0, suc-le-suc r.1, r.2)
 pick-has (false ∷ m) (d ∷ ds) (suc q) e h = pick-has m ds q e (le_of_suc-le-suc h)
 
-module _ (mins : List ℤ) (ws : List ℕ) (n k fit : ℕ) (f : Few ws n fit) where
+module _ (mins : List ℤ) (ws : List Mask) (n k fit : ℕ) (f : Few ws n fit) where
   abbrev ds : List Chutes
   ds = listed mins ws n
 
@@ -105,33 +103,30 @@ module _ (mins : List ℤ) (ws : List ℕ) (n k fit : ℕ) (f : Few ws n fit) wh
   pub taken : bit_and k fit ≡ k → entry n k ds ≡ present (bits n k) ds
   taken e = ap (λ (b : Bool). cond b (present (bits n k) ds) (still ds)) (lt-ltb k (2 ^ n) (inside e))
 
--- the entries before the next one are idle
-module _ (mins : List ℤ) (ws : List ℕ) (n fit : ℕ) (f : Few ws n fit) where
-  rest : ℕ → Swept
-  rest t = chain (entry n) (drop t table) (listed mins ws n)
+-- no entry is within the empty set
+module _ (mins : List ℤ) (ws : List Mask) (n : ℕ) (f : Few ws n 0) where
+  none-within : (t : ℕ) → t < 50 → Within 0 t → ⊥
+  none-within t h w =
+      let k : get_or table t 0 ≡ 0 = sym w ∙ and_zero_r (get_or table t 0) in
+      omega (arith, size_some t h, ap ones k, ones_none)
 
-  idle-to : (d u : ℕ) → u + d ≤ 50 → ((j : ℕ) → u ≤ j → j < u + d → Within fit j → ⊥) → rest u ≡ rest (u + d)
-  unfolding rest
-  idle-to zero u h b = ap rest (sym (add-zero u))
-  idle-to (suc d) u h b = here ∙ idle-to d (suc u) (omega arith) (λ j l k. b j (omega arith) (omega arith)) ∙ ap rest (suc-add u d ∙ sym (add-suc u d))
-    where
-      here : rest u ≡ rest (suc u)
-      here =
-          ap (λ (ks : List ℕ). chain (entry n) ks (listed mins ws n)) (table_more u (omega arith))
-          ∙ ap (λ (r : Swept). next r (λ es. chain (entry n) (drop (suc u) table) es)) (over mins ws n (get_or table u 0) fit f (size_few u (omega arith)) (b u (le_refl u) (omega arith)))
+  idle-from : (d t : ℕ) → t + d ≡ 50 → chain (entry n) (drop t table) (listed mins ws n) ≡ still (listed mins ws n)
+  idle-from zero t e = ap (λ (ks : List ℕ). chain (entry n) ks (listed mins ws n)) (table-end t (omega arith))
+  idle-from (suc d) t e =
+      let h : t < 50 = omega arith in
+      ap (λ (ks : List ℕ). chain (entry n) ks (listed mins ws n)) (table_more t h)
+      ∙ ap (λ (r : Swept). next r (λ es. chain (entry n) (drop (suc t) table) es)) (over mins ws n (get_or table t 0) 0 f (size_few t h) (none-within t h))
+      ∙ idle-from d (suc t) (omega arith)
 
-  pub skip : (t r : ℕ) → Next fit t r → chain (entry n) (drop t table) (listed mins ws n) ≡ chain (entry n) (drop r table) (listed mins ws n)
-  unfolding rest
-  skip t r x =
-      let e : t + (r - t) ≡ r = omega (arith, x.least) in
-      idle-to (r - t) t (omega (arith, x.most, x.least)) (λ j l k. x.before j l (omega arith)) ∙ ap rest e
+  pub all-idle : n ≤ 6 → step2 (listed mins ws n) ≡ still (listed mins ws n)
+  all-idle h = step2-table n (listed mins ws n) (listed-length mins ws n) h ∙ idle-from 50 0 (omega arith)
 
 -- ---- a subset that has changed nothing
 
-pub few-stays : (mins : List ℤ) (before after : List ℕ) (n fit : ℕ) → listed mins after n ≡ listed mins before n → Few before n fit → Few after n fit
+pub few-stays : (mins : List ℤ) (before after : List Mask) (n fit : ℕ) → listed mins after n ≡ listed mins before n → Few before n fit → Few after n fit
 few-stays mins before after n fit e f = (f.0, λ q h l. f.1 q h (subst (λ (x : ℕ). x ≤ 4) (count q h) l))
   where
-    size : (ws : List ℕ) (q : ℕ) → q < n → length (get_or (listed mins ws n) q []) ≡ ones (val (mask_at ws q))
+    size : (ws : List Mask) (q : ℕ) → q < n → length (get_or (listed mins ws n) q []) ≡ ones (val (mask_at ws q))
     size ws q h = ap length (listed_at mins ws n q h) ∙ size-ones (get_or mins q (pos 0)) (mask_at ws q)
 
     count : (q : ℕ) → q < n → ones (val (mask_at after q)) ≡ ones (val (mask_at before q))

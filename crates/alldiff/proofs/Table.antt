@@ -1,9 +1,9 @@
 -- The sizes of the table's subsets: 15 of two places, 20 of three, 15 of four. Assumes nothing.
 use Rattle.std.specs.Prelude.{◌≡◌, Bool, true, false, ◌&&◌, cond, List, [], ◌∷◌, ℕ, zero, suc, ◌+◌, ◌<◌, ◌≤◌, T, eqb, ltb, length, get_or}
 use Rattle.std.specs.Int.Count.{ones}
-use Rattle.std.proofs.Common.{sym, ◌∙◌, subst, add-zero, zero-add, add-suc, suc-add, le_of_suc-le-suc, not-suc-le-zero, arith, eqb→eq}
+use Rattle.std.proofs.Common.{sym, ◌∙◌, subst, add-zero, zero-add, add-suc, suc-add, le_of_suc-le-suc, not-suc-le-zero, arith, eqb→eq, ltb-true}
 use Rattle.rules.specs.Table.{table, table-size}
-use Rattle.rules.proofs.Tests.{and_left, and_right}
+use Rattle.rules.proofs.Tests.{and_left, and_right, is_true}
 
 -- a test of each entry and its place, counted from i
 abbrev every : (ℕ → ℕ → Bool) → ℕ → List ℕ → Bool
@@ -40,3 +40,25 @@ size_few t h = subst (λ (n : ℕ). n ≤ 4) (sym (size-at t h)) (go (ltb t 15) 
     go true b = omega arith
     go false true = omega arith
     go false false = omega arith
+
+pub size_some : (t : ℕ) → t < 50 → 2 ≤ ones (get_or table t 0)
+size_some t h = subst (λ (n : ℕ). 2 ≤ n) (sym (size-at t h)) (go (ltb t 15) (ltb t 35))
+  where
+    go : (a b : Bool) → 2 ≤ cond a 2 (cond b 3 4)
+    go true b = omega arith
+    go false true = omega arith
+    go false false = omega arith
+
+-- every entry is a byte
+byte : ℕ → ℕ → Bool
+byte t x = ltb x 256
+
+bytes : T (every byte 0 table)
+unfolding table byte
+bytes = tt
+
+pub entry-lt : (t : ℕ) → t < 50 → get_or table t 0 < 256
+unfolding byte
+entry-lt t h =
+    ltb-true (get_or table t 0) 256
+    (is_true (ltb (get_or table t 0) 256) (subst (λ (m : ℕ). T (byte m (get_or table t 0))) (zero-add t) (from byte table 0 bytes t (subst (λ (n : ℕ). t < n) (sym table-size) h))))

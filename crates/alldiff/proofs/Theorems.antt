@@ -3,6 +3,7 @@
 use Rattle.std.specs.Prelude.{◌≡◌, List, [], ℕ, ◌^◌, ◌<◌, ℤ, pos, get_or}
 use Rattle.std.proofs.Common.{sym, ap, ◌∙◌, subst, arith}
 use Rattle.std.proofs.Math.Decide.{dec_lt}
+use Rattle.mask.specs.declared.Mask.{Mask}
 use Rattle.mask.specs.Val.{val, Fit, mask_of, mask-val}
 use Rattle.mask.specs.Sets.{In, fits_in}
 use Rattle.rules.specs.Sets.{Chutes}
@@ -18,7 +19,7 @@ use Rattle.alldiff.specs.Gather.{told}
 
 -- ---- masks only lose values
 
-module _ (n : ℕ) (before after : List ℕ) (l : Left n before after) where
+module _ (n : ℕ) (before after : List Mask) (l : Left n before after) where
   pub only-shrinks : (p k : ℕ) → In (val (mask_at after p)) k → In (val (mask_at before p)) k
   only-shrinks = l.fewer
 
@@ -27,12 +28,12 @@ module _ (n : ℕ) (before after : List ℕ) (l : Left n before after) where
   still-fits p w h = (fits_in (val (mask_at after p)) w).1 (λ k i. (fits_in (val (mask_at before p)) w).0 h k (l.fewer p k i))
 
 -- the listed domains after the pass are within those before
-pub listed-shrinks : (mins : List ℤ) (before after : List ℕ) (n : ℕ) (r : Passed) → told r (listed mins after n) ≡ pass (listed mins before n) → Sub (listed mins after n) (listed mins before n)
+pub listed-shrinks : (mins : List ℤ) (before after : List Mask) (n : ℕ) (r : Passed) → told r (listed mins after n) ≡ pass (listed mins before n) → Sub (listed mins after n) (listed mins before n)
 listed-shrinks mins before after n r e = subst (λ (ds : List Chutes). Sub ds (listed mins before n)) (sym (ap (λ (s : Swept). s.domains) e)) (pass-sub (listed mins before n))
 
 -- ---- two outcomes coincide
 
-module _ (mins : List ℤ) (before : List ℕ) (n : ℕ) (xs ys : List ℕ) (lx : Left n before xs) (ly : Left n before ys) (fx : (p : ℕ) → Fit (mask_at xs p)) (fy : (p : ℕ) → Fit (mask_at ys p)) (e : listed mins xs n ≡ listed mins ys n) where
+module _ (mins : List ℤ) (before : List Mask) (n : ℕ) (xs ys : List Mask) (lx : Left n before xs) (ly : Left n before ys) (fx : (p : ℕ) → Fit (mask_at xs p)) (fy : (p : ℕ) → Fit (mask_at ys p)) (e : listed mins xs n ≡ listed mins ys n) where
   same-mask : (p : ℕ) → mask_at xs p ≡ mask_at ys p
   same-mask p = go (dec_lt p n)
     where

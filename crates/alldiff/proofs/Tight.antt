@@ -1,8 +1,8 @@
 -- Whether a subset is tight, by the values that are gathered, and what it then does. Assumes nothing.
-use Rattle.std.specs.Prelude.{◌≡◌, refl, Bool, true, false, List, [], ◌∷◌, ℕ, zero, suc, ◌/◌, ◌%◌, ◌^◌, ◌<◌, ◌≤◌, eqb, ℤ, length, take}
+use Rattle.std.specs.Prelude.{◌≡◌, refl, Bool, true, false, List, [], ◌∷◌, ℕ, zero, suc, ◌/◌, ◌%◌, ◌^◌, ◌<◌, eqb, ℤ, length, Option}
 use Rattle.std.specs.Int.Count.{ones, ones_step}
-use Rattle.std.proofs.Common.{sym, ap, ◌∙◌, pow-suc, arith, length-take-le, eqb-true, eq-eqb, ne_eqb}
-use Rattle.std.proofs.Math.Decide.{dec_le}
+use Rattle.std.proofs.Common.{sym, ap, ◌∙◌, pow-suc, arith, length-take-le, take_all, eqb-true, eq-eqb, ne_eqb}
+use Rattle.std.specs.declared.option.Option.TheVariants.{None, Some}
 use Rattle.std.proofs.lemmas.Bool.{eqb-false}
 use Rattle.mask.specs.Sets.{ones_none}
 use Rattle.rules.specs.Sets.{Chutes, has, union}
@@ -51,17 +51,11 @@ module _ (n k : ℕ) (ds : List Chutes) (l : length ds ≡ n) (h : k < 2 ^ n) wh
       let e : tight (bits n k) ds ≡ true = tight-found ∙ eq-eqb (length found) (ones k) f in
       rw e (sweep-same (bits n k) (union (pick (bits n k) ds)) u ds (λ x. sym (gathered-has (pick (bits n k) ds) x) ∙ ap (has x) (sym q)))
 
-  -- by what was gathered, r of at most k's size
-  module _ (most : ℕ) (few : most ≤ 4) (size : most ≡ ones k) (vals : List ℤ) (r : ℕ) (g : Holds most found vals r) where
-    holds : r ≤ most → length found ≡ r
-    holds f = ap length (sym (g.few f)) ∙ length-take-le r vals (omega (arith, g.room))
+  -- by what was gathered in as many cells as it has places
+  module _ (vals : List ℤ) (size : length vals ≡ ones k) where
+    pub other-size : (o : Option ℕ) → Holds found vals o → (o ≡ Some (ones k) → ⊥) → present (bits n k) ds ≡ still ds
+    other-size None g f = not-tight (λ e. omega arith)
+    other-size (Some r) g f = not-tight (λ e. f (ap Some (sym (length-take-le r vals g.0) ∙ ap length g.1 ∙ e)))
 
-    pub other-size : (r ≡ most → ⊥) → present (bits n k) ds ≡ still ds
-    other-size f = not-tight (λ e. go e (dec_le r most))
-      where
-        go : length found ≡ ones k → Dec (r ≤ most) → ⊥
-        go e (yes a) = f (omega (arith, holds a))
-        go e (no a) = omega (arith, g.many (omega arith))
-
-    pub same_size : r ≡ most → present (bits n k) ds ≡ sweep (bits n k) (take r vals) ds
-    same_size e = let a : r ≤ most = omega arith in is-tight (take r vals) (g.few a) (omega (arith, holds a))
+    pub same_size : Holds found vals (Some (ones k)) → present (bits n k) ds ≡ sweep (bits n k) vals ds
+    same_size g = let q : vals ≡ found = sym (take_all (ones k) vals (omega arith)) ∙ g.1 in is-tight vals q (sym (ap length q) ∙ size)

@@ -6,6 +6,7 @@ use Rattle.std.proofs.Math.Nat.{sub-zero}
 use Rattle.std.proofs.Math.Decide.{ℕ_discrete, dec_le}
 use lib.Dec.{not_T}
 use lib.ListN.{get_or-eq_default}
+use Rattle.mask.specs.declared.Mask.{Mask}
 use Rattle.mask.specs.Sets.{count_up}
 use Rattle.rules.specs.Sets.{Chutes, has, some, strike}
 use Rattle.rules.specs.Pass.{Places, choose, Swept, still, lost, sweep, next, chain, tight, noted, step1}
@@ -247,7 +248,7 @@ same_test : (a b : Bool) → (T a → T b) → (T b → T a) → a ≡ b
 same_test true b f g = sym (is_true b (f tt))
 same_test false b f g = sym (is_false b g)
 
-module _ (mins : List ℤ) (ws : List ℕ) (n : ℕ) where
+module _ (mins : List ℤ) (ws : List Mask) (n : ℕ) where
   abbrev ds : List Chutes
   ds = listed mins ws n
 

@@ -1,5 +1,6 @@
 -- Which subsets of step 2 are looked at: those within the places that have few values.
 use Rattle.std.specs.Prelude.{◌≡◌, List, ℕ, ◌^◌, ◌<◌, ◌≤◌, get_or}
+use Rattle.mask.specs.declared.Mask.{Mask}
 use Rattle.std.specs.Int.Bits.{bit_and}
 use Rattle.std.specs.Int.Count.{ones}
 use Rattle.rules.specs.Table.{table}
@@ -8,16 +9,9 @@ use Rattle.mask.specs.Sets.{In}
 use Rattle.masks.specs.Cells.{mask_at}
 
 -- of the first p places, those that have at most 4 values are in the set
-abbrev pub Few : List ℕ → ℕ → ℕ → Type 0
+abbrev pub Few : List Mask → ℕ → ℕ → Type 0
 Few ws p fit = (fit < 2 ^ p) × ((q : ℕ) → q < p → ones (val (mask_at ws q)) ≤ 4 → In fit q)
 
 -- entry j of the table is within the set
 abbrev pub Within : ℕ → ℕ → Type 0
 Within fit j = bit_and (get_or table j 0) fit ≡ get_or table j 0
-
--- r is the first entry from t on that is within the set, or 50
-pub record Next (fit t r : ℕ) : Type 0 where
-  pub least : t ≤ r
-  pub most : r ≤ 50
-  pub before : (j : ℕ) → t ≤ j → j < r → Within fit j → ⊥
-  pub there : r < 50 → Within fit r

@@ -1,5 +1,6 @@
 -- The values of several domains, gathered one by one, each once; and what the pass tells.
-use Rattle.std.specs.Prelude.{◌≡◌, refl, cond, List, [], ◌∷◌, ◌++◌, ℕ, ◌≤◌, ◌<◌, length, take, ℤ, pos}
+use Rattle.std.specs.Prelude.{◌≡◌, refl, cond, List, [], ◌∷◌, ◌++◌, ℕ, ◌≤◌, ◌<◌, length, take, ℤ, pos, Option}
+use Rattle.std.specs.declared.option.Option.TheVariants.{None, Some}
 use Rattle.rules.specs.Sets.{Chutes, has, all}
 use Rattle.rules.specs.Pass.{Swept}
 use Rattle.alldiff.specs.declared.Passed.{Passed}
@@ -16,12 +17,11 @@ gathered ds = add_to [] (all ds)
 shared : gathered ((pos 1 ∷ pos 2 ∷ []) ∷ (pos 2 ∷ pos 3 ∷ []) ∷ []) ≡ pos 1 ∷ pos 2 ∷ pos 3 ∷ []
 shared = refl
 
--- the first r cells hold l, unless it has more than `most`: then r is larger too
-pub record Holds (most : ℕ) (l : Chutes) (vals : List ℤ) (r : ℕ) : Type 0 where
-  pub room : length vals ≡ 4
-  pub few : r ≤ most → take r vals ≡ l
-  pub many : most < r → most < length l
+-- the first r cells hold l; or l has more than there are cells
+abbrev pub Holds : Chutes → List ℤ → Option ℕ → Type 0
+Holds l vals (Some r) = (r ≤ length vals) × (take r vals ≡ l)
+Holds l vals None = length vals < length l
 
 -- the domains after the pass, and its answer
 abbrev pub told : Passed → List Chutes → Swept
-told r ds = record { domains = ds; changed = r.changed; consistent = r.consistent }
+told r ds = record { domains = ds; changed = r.answer.changed; consistent = r.answer.consistent }

@@ -4,43 +4,27 @@ ghost use Rattle.rules.specs.Pass.{step1};
 ghost use Rattle.mask.specs.Val.{val};
 ghost use Rattle.masks.specs.Cells.{Room};
 ghost use Rattle.sweep.specs.Listed.{listed, swept, Left, Level, Within32};
-ghost use Rattle.alldiff.specs.Fixing.{Fixing};
+ghost use Rattle.alldiff.specs.Fixing.{Fixing, Fixed};
 
 use mask::Mask;
 use masks::Masks;
-use sweep::Outcome;
+use rules::Pair;
 
-// The members of the masks that have one only, and whether no two of these have the same.
-#[derive(Clone, Copy)]
-pub struct Found {
-    pub values: Mask,
-    pub apart: bool,
-}
-
-// Gathers them, up to the first that has the same as one before.
-pub fn fixed(ms: &Masks, n: usize) -> Found
+// The members of the masks that have one only, if no two of these have the same.
+pub fn fixed(ms: &Masks, n: usize) -> Option<Mask>
     requires { n ≤ 64 }
-    ensures { result.apart ≡ true → Fixing ms.now n (val result.values) }
+    ensures { Fixed ms.now n result }
 {
     let mut values = mask::empty();
-    let mut p = 0;
-    while p < n {
-        let m = masks::at(ms, p);
+    for &m in &ms[..n] {
         if mask::is_one(m) {
             if !mask::is_none(mask::and(m, values)) {
-                return Found {
-                    values,
-                    apart: false,
-                };
+                return None;
             }
             values = mask::or(values, m);
         }
-        p += 1;
     }
-    Found {
-        values,
-        apart: true,
-    }
+    Some(values)
 }
 
 // Whether the universes of the first n places start at one value. Nothing ends it early, so that several are tested at a time.
@@ -50,38 +34,34 @@ pub fn is_level(mins: &[i32; 64], n: usize) -> bool
 {
     let first = mins[0];
     let mut level = true;
-    let mut p = 0;
-    while p < n {
-        level = level & (mins[p] == first);
-        p += 1;
+    for &min in &mins[..n] {
+        level &= min == first;
     }
     level
 }
 
 // Step 1, place by place: the value of each that is assigned at entry is taken out of the others.
-pub fn one_by_one(mins: &[i32; 64], ms: &mut Masks, n: usize) -> Outcome
+pub fn one_by_one(mins: &[i32; 64], ms: &mut Masks, n: usize) -> Pair
     requires { (n ≤ 64) × Room ms.old × Within32 mins.now ms.old n }
     ensures { Left n ms.old ms.new × (swept result (listed mins.now ms.new n) ≡ step1 (listed mins.now ms.old n)) }
 {
     let entry = *ms;
     let mut changed = false;
-    let mut p = 0;
-    while p < n {
-        let m = masks::at(&entry, p);
+    for p in 0..n {
+        let m = entry[p];
         if mask::is_one(m) {
             let v = offset::value(mins[p], mask::lowest(m));
             let did = sweep::strike_others(mins, ms, n, p, v);
-            changed = changed | did.changed;
+            changed |= did.changed;
             if !did.consistent {
-                return Outcome {
+                return Pair {
                     changed,
                     consistent: false,
                 };
             }
         }
-        p += 1;
     }
-    Outcome {
+    Pair {
         changed,
         consistent: true,
     }

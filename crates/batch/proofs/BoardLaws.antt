@@ -17,8 +17,8 @@ use Rattle.board_close.specs.Close.{left}
 use Rattle.board_close.proofs.Closing.{close-known, close-unknown}
 use Rattle.board_close.proofs.Theorems.{close-obeys}
 use Rattle.batch.specs.Batch.{closed_by, closed_all, is_yes, more, yeses, closing_of}
-use Rattle.batch.specs.Tallies.{Fit, shut_at, tells_at, tallied, tally_of}
-use Rattle.batch.proofs.TallyLaws.{tally, more-most}
+use Rattle.batch.specs.Tallies.{Fit, shut_at, tells_at, tallied, tally, tally_of}
+use Rattle.batch.proofs.TallyLaws.{more-most}
 
 -- the rows of a well-formed board
 pub board-fit : (b : Board) → well_board b ≡ true → Fit b.rows b.count

@@ -16,8 +16,7 @@ use Rattle.board.proofs.ViewLaws.{with-id, with_each}
 use Rattle.board_close.specs.Close.{left, shut_of}
 use Rattle.board_close.specs.declared.Shut.{Shut}
 use Rattle.batch.specs.Batch.{more}
-use Rattle.batch.specs.Tallies.{Fit, shut_at, tells_at, tallied, untold, tally_of}
-use Rattle.batch.specs.declared.Tally.{Tally}
+use Rattle.batch.specs.Tallies.{Tally, Fit, shut_at, tells_at, tallied, tally, untold, tally_of}
 
 -- how `search (needs, all-closings)` finds that a program's run has all its cells
 pub all-closings : (Y : Type 0) (g : Closing → Y) (l : List Closing) (n : ℕ) → length (map g l) ≡ n → length l ≡ n
@@ -26,9 +25,6 @@ all-closings Y g l n e = sym (length-map l g) ∙ e
 -- what lies past the end of a run
 abbrev pub none : Closing
 none = record { kind = Remove; id = record { 0 = 0 }; value = record { 0 = pos 0 } }
-
-abbrev pub tally : List Row → ℕ → Tally
-tally rows n = record { rows = rows; yes = n }
 
 pub more-most : (y : Bool) (n : ℕ) → more y n ≤ n + 1
 more-most true n = omega arith

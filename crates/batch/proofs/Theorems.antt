@@ -1,10 +1,10 @@
 -- A batch is its closings made one by one, and does as the rules say; a board that isn't well formed comes back as it came.
-use Rattle.std.specs.Prelude.{◌≡◌, refl, Bool, true, false, ◌||◌, List, [], ◌∷◌, map, ℕ, ◌+◌, ltb}
+use Rattle.std.specs.Prelude.{◌≡◌, refl, Bool, true, false, ◌||◌, List, [], ◌∷◌, map, ℕ, ◌+◌, ltb, Result}
+use Rattle.std.specs.declared.result.Result.TheVariants.{Ok, Err}
+use Rattle.rules.specs.declared.Refusal.{Refusal}
 use Rattle.std.proofs.Common.{sym, ap, ◌∙◌, subst, arith}
 use Rattle.rules.specs.Board as rules
 use Rattle.rules.specs.declared.Refusal.TheVariants.{Broken}
-use Rattle.domain.specs.declared.Counted.{Counted}
-use Rattle.domain.specs.declared.Counted.TheVariants as counted
 use Rattle.closing.specs.declared.Closing.{Closing}
 use Rattle.board.specs.Rows.{with_rows}
 use Rattle.board.specs.Well.{well_board}
@@ -14,18 +14,17 @@ use Rattle.board.specs.declared.Board.{Board}
 use Rattle.board.specs.declared.Closed.{Closed}
 use Rattle.board.proofs.ViewLaws.{alike_same, alike_then}
 use Rattle.batch.specs.Batch.{closed_by, closed_all, is_yes, more, yeses, batch_of, counted_of, closing_of}
-use Rattle.batch.specs.Tallies.{untold, tally_of}
+use Rattle.batch.specs.Tallies.{Tally, untold, tally_of}
 use Rattle.batch.specs.declared.Batched.{Batched}
-use Rattle.batch.specs.declared.Tally.{Tally}
 use Rattle.batch.proofs.BoardLaws.{tells, shut, closed_is, shut-obeys, yeses-more, tally-board}
 
 -- ---- one by one
 
 abbrev pub counts : Board → ℕ → Batched
-counts b n = record { board = b; answer = counted.Count n }
+counts b n = record { board = b; answer = Ok n }
 
 abbrev pub refused : Board → Batched
-refused b = record { board = b; answer = counted.Refused Broken }
+refused b = record { board = b; answer = Err Broken }
 
 module _ (b : Board) where
   -- the board is the one that the last closing hands back, and the answer counts those that answered yes
@@ -51,9 +50,9 @@ tally-batch b whole w cs t e =
     add-zero n = omega arith
 
 -- one more in front: that closing, and then the batch of the others on the board that it hands back
-abbrev pub one_more : Bool → Counted → Counted
-one_more y (counted.Count n) = counted.Count (more y n)
-one_more y (counted.Refused r) = counted.Refused r
+abbrev pub one_more : Bool → Result ℕ Refusal → Result ℕ Refusal
+one_more y (Ok n) = Ok (more y n)
+one_more y (Err r) = Err r
 
 abbrev pub then : Closed → List Closing → Batched
 then r cs = record { board = (batch_of r.board cs).board; answer = one_more (is_yes r.answer) (batch_of r.board cs).answer }

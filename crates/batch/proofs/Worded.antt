@@ -1,7 +1,7 @@
 -- A batch leaves words of 64 bits, on every input, since each of its closings does.
 use Rattle.std.specs.Prelude.{Bool, true, false, cond, List, [], ◌∷◌}
+use Rattle.std.specs.declared.result.Result.TheVariants.{Ok, Err}
 use Rattle.rules.specs.declared.Refusal.TheVariants.{Broken}
-use Rattle.domain.specs.declared.Counted.TheVariants as counted
 use Rattle.closing.specs.Kinds.{kind_of}
 use Rattle.closing.specs.declared.Closing.{Closing}
 use Rattle.board.specs.Well.{well_board}
@@ -19,6 +19,6 @@ pub batch-worded : (b : Board) (cs : List Closing) → Worded b → Worded (batc
 unfolding batch_of
 batch-worded b cs h = go (well_board b)
   where
-    go : (x : Bool) → Worded (cond {A = Batched} x (record { board = closed_all cs b; answer = counted.Count (yeses cs b) }) (record { board = b; answer = counted.Refused Broken })).board
+    go : (x : Bool) → Worded (cond {A = Batched} x (record { board = closed_all cs b; answer = Ok (yeses cs b) }) (record { board = b; answer = Err Broken })).board
     go true = all-worded cs b h
     go false = h

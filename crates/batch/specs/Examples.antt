@@ -1,11 +1,11 @@
 -- A batch on a small board, run: each closing meets what those before it left. Assumes nothing.
 use Rattle.std.specs.Prelude.{◌≡◌, refl, true, List, [], ◌∷◌, ℕ, pos, replicate}
+use Rattle.std.specs.declared.result.Result.TheVariants.{Ok, Err}
 use Rattle.mask.specs.Val.{val, mask_of}
 use Rattle.mask.specs.Sets.{members_from, members_in}
 use Rattle.offset.specs.Places.{span_of}
 use Rattle.rules.specs.declared.Refusal.TheVariants.{Broken}
 use Rattle.domain.specs.Set.{values_of, well, bits_of}
-use Rattle.domain.specs.declared.Counted.TheVariants as counted
 use Rattle.closing.specs.declared.Closing.{Closing}
 use Rattle.closing.specs.declared.Kind.{Kind}
 use Rattle.closing.specs.declared.Kind.TheVariants.{Remove, Assign, Below}
@@ -21,10 +21,10 @@ closing k i v = record { kind = k; id = record { 0 = i }; value = record { 0 = p
 abbrev four : List Closing
 four = closing Remove 20 1 ∷ closing Below 20 2 ∷ closing Remove 99 2 ∷ closing Assign 21 2 ∷ []
 
-closed : batch_of two four ≡ record { board = pair 6 2 0 (replicate 4 0) true; answer = counted.Count 2 }
+closed : batch_of two four ≡ record { board = pair 6 2 0 (replicate 4 0) true; answer = Ok 2 }
 unfolding batch_of close_of well_parts well span_of val values_of bits_of mask_of members_from members_in
 closed = refl
 
-refused : batch_of ill four ≡ record { board = ill; answer = counted.Refused Broken }
+refused : batch_of ill four ≡ record { board = ill; answer = Err Broken }
 unfolding batch_of well_parts well span_of val
 refused = refl

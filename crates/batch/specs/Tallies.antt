@@ -9,13 +9,17 @@ use Rattle.board.specs.Well.{differ}
 use Rattle.board.specs.declared.Row.{Row}
 use Rattle.board_close.specs.Close.{left}
 use Rattle.batch.specs.Batch.{more}
-use Rattle.batch.specs.declared.Tally.{Tally}
 
 -- what the rows of a well-formed board have
 pub record Fit (rows : List Row) (count : ℕ) : Type 0 where
   pub few : count ≤ 64
   pub apart : differ (id_at rows) count ≡ true
   pub domains : (i : ℕ) → i < count → well (domain_at rows i) ≡ true
+
+-- rows after some closings, and how many of those took a chute
+pub record Tally : Type 0 where
+  pub rows : List Row
+  pub yes : ℕ
 
 -- the row at p is closed by c; of an id that isn't registered there is nothing to change
 abbrev pub shut_at : Closing → List Row → ℕ → List Row
@@ -29,6 +33,9 @@ unfoldable pub tallied : ℕ → Tally → Closing → Tally
 tallied count t c =
     let p = seat_in (id_at t.rows) count c.id.0 in
     record { rows = shut_at c t.rows p; yes = more (tells_at c t.rows p) t.yes }
+
+abbrev pub tally : List Row → ℕ → Tally
+tally rows n = record { rows = rows; yes = n }
 
 abbrev pub untold : List Row → Tally
 untold rows = record { rows = rows; yes = 0 }

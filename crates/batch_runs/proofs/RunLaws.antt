@@ -1,22 +1,23 @@
 -- Runs of numbers, place by place. Assumes nothing.
-use Rattle.std.specs.Prelude.{◌≡◌, refl, Bool, true, false, cond, List, [], ◌∷◌, ◌++◌, ℕ, zero, suc, ◌+◌, ◌≤◌, ◌<◌, eqb, ltb, ℤ, pos, length, get_or, take, drop, set}
-use Rattle.std.proofs.Common.{sym, ap, ◌∙◌, not-suc-le-zero, le_of_suc-le-suc, add-one, arith, drop_of_length-le, drop-cons, take-suc, take-suc-set, take_all, eq-eqb, ne_eqb, lt-ltb, le-ltb, eqb-true, ltb-false}
+use Rattle.std.specs.Prelude.{◌≡◌, refl, Bool, true, false, List, [], ◌∷◌, ◌++◌, ℕ, zero, suc, ◌+◌, ◌≤◌, ◌<◌, eqb, ltb, ℤ, pos, length, get_or, take, set}
+use Rattle.std.proofs.Common.{sym, ap, ◌∙◌, not-suc-le-zero, le_of_suc-le-suc, add-one, arith, take-suc, take-suc-set, take_all, eq-eqb, ne_eqb, lt-ltb, le-ltb, eqb-true, ltb-false}
 use Rattle.rules.proofs.Tests.{and-false}
 use Rattle.closing.specs.declared.Closing.{Closing}
-use Rattle.batch_runs.specs.declared.Form.TheVariants as form
+use Rattle.batch_runs.specs.declared.Fault.TheVariants.{Uneven, Long, Bad}
+use Rattle.std.specs.declared.result.Result.TheVariants.{Ok, Err}
 use Rattle.batch_runs.specs.Runs.{is_kind, kinds_form, form_of, closing_at, closings_of}
 
 -- ---- the form
 
-pub form-ids : (ks : List ℕ) (n m : ℕ) → (n ≡ length ks → ⊥) → form.Uneven ≡ form_of ks n m
+pub form-ids : (ks : List ℕ) (n m : ℕ) → (n ≡ length ks → ⊥) → Err Uneven ≡ form_of ks n m
 unfolding form_of
 form-ids ks n m ne = rw (ne_eqb n (length ks) ne)
 
-pub form-values : (ks : List ℕ) (n m : ℕ) → (m ≡ length ks → ⊥) → form.Uneven ≡ form_of ks n m
+pub form-values : (ks : List ℕ) (n m : ℕ) → (m ≡ length ks → ⊥) → Err Uneven ≡ form_of ks n m
 unfolding form_of
 form-values ks n m ne = rw (ne_eqb m (length ks) ne, and-false (eqb n (length ks)))
 
-pub form-long : (ks : List ℕ) (n m : ℕ) → n ≡ length ks → m ≡ length ks → 256 < length ks → form.Long ≡ form_of ks n m
+pub form-long : (ks : List ℕ) (n m : ℕ) → n ≡ length ks → m ≡ length ks → 256 < length ks → Err Long ≡ form_of ks n m
 unfolding form_of
 form-long ks n m p q l = rw (eq-eqb n (length ks) p, eq-eqb m (length ks) q, lt-ltb 256 (length ks) l)
 
@@ -24,39 +25,27 @@ pub form-kinds : (ks : List ℕ) (n m : ℕ) → n ≡ length ks → m ≡ lengt
 unfolding form_of
 form-kinds ks n m p q l = rw (eq-eqb n (length ks) p, eq-eqb m (length ks) q, le-ltb 256 (length ks) l)
 
--- the number at place i
-pub kinds-at : (ks : List ℕ) (i : ℕ) → i < length ks → kinds_form i (drop i ks) ≡ cond (is_kind (get_or ks i 0)) (kinds_form (suc i) (drop (suc i) ks)) (form.Bad i)
-kinds-at ks i l = ap (kinds_form i) (drop-cons ks i 0 l)
+-- every number is a kind, or the first that is none is found
+pub kinds-all : (p : ℕ) (ks : List ℕ) → ((k : ℕ) → k < length ks → is_kind (get_or ks k 0) ≡ true) → Ok tt ≡ kinds_form p ks
+kinds-all p [] h = refl
+kinds-all p (k ∷ ks) h = kinds-all (suc p) ks (λ j l. h (suc j) (omega arith)) ∙ sym (rw (h 0 (omega arith)))
 
-pub kind-zero : (ks : List ℕ) (i : ℕ) → i < length ks → get_or ks i 0 ≡ 0 → kinds_form i (drop i ks) ≡ form.Bad i
-kind-zero ks i l e = kinds-at ks i l ∙ rw e
-
-pub kind-over : (ks : List ℕ) (i : ℕ) → i < length ks → 4 < get_or ks i 0 → kinds_form i (drop i ks) ≡ form.Bad i
-kind-over ks i l m = kinds-at ks i l ∙ rw (le-ltb (get_or ks i 0) 5 m, and-false (ltb 0 (get_or ks i 0)))
-
-pub kind-good : (ks : List ℕ) (i : ℕ) → i < length ks → (get_or ks i 0 ≡ 0 → ⊥) → get_or ks i 0 ≤ 4 → kinds_form (i + 1) (drop (i + 1) ks) ≡ kinds_form i (drop i ks)
-kind-good ks i l ne m =
-    let p : 0 < get_or ks i 0 = pos_of (get_or ks i 0) ne in
-    let q : get_or ks i 0 < 5 = omega arith in
-    ap (λ (n : ℕ). kinds_form n (drop n ks)) (add-one i) ∙ sym (kinds-at ks i l ∙ rw (lt-ltb 0 (get_or ks i 0) p, lt-ltb (get_or ks i 0) 5 q))
-  where
-    pos_of : (n : ℕ) → (n ≡ 0 → ⊥) → 0 < n
-    pos_of zero h = absurd (h refl)
-    pos_of (suc n) h = omega arith
-
-pub kinds-end : (ks : List ℕ) (i : ℕ) → length ks ≤ i → form.Batch ≡ kinds_form i (drop i ks)
-kinds-end ks i l = sym (ap (kinds_form i) (drop_of_length-le ks l))
+pub kinds-first : (p i q : ℕ) (ks : List ℕ) → i < length ks → p + i ≡ q → is_kind (get_or ks i 0) ≡ false → ((k : ℕ) → k < i → is_kind (get_or ks k 0) ≡ true) → Err (Bad q) ≡ kinds_form p ks
+kinds-first p i q [] l e bad h = absurd (not-suc-le-zero l)
+kinds-first p zero q (k ∷ ks) l e bad h = let z : p ≡ q = omega arith in sym (rw bad (ap (λ n. Err (Bad n)) z))
+kinds-first p (suc i) q (k ∷ ks) l e bad h =
+    kinds-first (suc p) i q ks (le_of_suc-le-suc l) (omega arith) bad (λ j m. h (suc j) (omega arith)) ∙ sym (rw (h 0 (omega arith)))
 
 -- what is written as a batch has one length, and that is at most 256
-pub formed : (ks : List ℕ) (n m : ℕ) → form_of ks n m ≡ form.Batch → (n ≡ length ks) × (m ≡ length ks) × (length ks ≤ 256)
+pub formed : (ks : List ℕ) (n m : ℕ) → form_of ks n m ≡ Ok tt → (n ≡ length ks) × (m ≡ length ks) × (length ks ≤ 256)
 unfolding form_of
 formed ks n m e = go (eqb n (length ks)) refl (eqb m (length ks)) refl (ltb 256 (length ks)) refl
   where
     go : (p : Bool) → eqb n (length ks) ≡ p → (q : Bool) → eqb m (length ks) ≡ q → (r : Bool) → ltb 256 (length ks) ≡ r → (n ≡ length ks) × (m ≡ length ks) × (length ks ≤ 256)
     go true p true q false r = (eqb-true n (length ks) p, eqb-true m (length ks) q, ltb-false 256 (length ks) r)
-    go true p true q true r = absurd (let z : form.Long ≡ form.Batch = sym (rw (p, q, r)) ∙ e in let y : ◌≡◌ {A = ℕ} 0 1 = cc in omega arith)
-    go true p false q r z = absurd (let z : form.Uneven ≡ form.Batch = sym (rw (p, q)) ∙ e in let y : ◌≡◌ {A = ℕ} 0 1 = cc in omega arith)
-    go false p q u r z = absurd (let z : form.Uneven ≡ form.Batch = sym (rw p) ∙ e in let y : ◌≡◌ {A = ℕ} 0 1 = cc in omega arith)
+    go true p true q true r = absurd (let z : Err Long ≡ Ok tt = sym (rw (p, q, r)) ∙ e in cc)
+    go true p false q r z = absurd (let y : Err Uneven ≡ Ok tt = sym (rw (p, q)) ∙ e in cc)
+    go false p q u r z = absurd (let y : Err Uneven ≡ Ok tt = sym (rw p) ∙ e in cc)
 
 -- ---- the closings
 

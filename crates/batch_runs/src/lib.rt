@@ -10,41 +10,29 @@ ghost use Rattle.batch_runs.specs.Runs.{form_of, closing_at, closings_of};
 use closing::Closing;
 use rules::{Value, Variable};
 
-// What three runs are: a batch, or why not one.
+// Why three runs are no batch.
 #[derive(Clone, Copy)]
-pub enum Form {
-    Batch,
+pub enum Fault {
     Uneven,
     Long,
     Bad(usize),
 }
 
 // The runs are of one length and at most 256 long, and every kind is one of the four: else the place of the first that isn't.
-pub fn judge(kinds: &[u32], ids: &[u32], values: &[i32]) -> Form
+pub fn judge(kinds: &[u32], ids: &[u32], values: &[i32]) -> Result<(), Fault>
     ensures { result ≡ form_of kinds.now (length ids.now) (length values.now) }
 {
     let n = kinds.len();
-    if ids.len() != n {
-        return Form::Uneven;
-    }
-    if values.len() != n {
-        return Form::Uneven;
+    if ids.len() != n || values.len() != n {
+        return Err(Fault::Uneven);
     }
     if 256 < n {
-        return Form::Long;
+        return Err(Fault::Long);
     }
-    let mut i = 0;
-    while i < n {
-        let k = kinds[i];
-        if k == 0 {
-            return Form::Bad(i);
-        }
-        if 4 < k {
-            return Form::Bad(i);
-        }
-        i += 1;
+    match kinds.iter().position(|k| !(1..=4).contains(k)) {
+        Some(place) => Err(Fault::Bad(place)),
+        None => Ok(()),
     }
-    Form::Batch
 }
 
 fn closing_at(kind: u32, id: u32, value: i32) -> Closing
@@ -62,14 +50,9 @@ pub fn gather(kinds: &[u32], ids: &[u32], values: &[i32]) -> [Closing; 256]
     requires { (length ids.now ≡ length kinds.now) × (length values.now ≡ length kinds.now) × (length kinds.now ≤ 256) }
     ensures { take (length kinds.now) result ≡ closings_of kinds.now ids.now values.now }
 {
-    let n = kinds.len();
-    let none = closing_at(1, 0, 0);
-    let mut cs = [none; 256];
-    let mut i = 0;
-    while i < n {
-        let v = values[i];
-        cs[i] = closing_at(kinds[i], ids[i], v);
-        i += 1;
+    let mut cs = [closing_at(1, 0, 0); 256];
+    for i in 0..kinds.len() {
+        cs[i] = closing_at(kinds[i], ids[i], values[i]);
     }
     cs
 }

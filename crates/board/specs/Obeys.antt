@@ -1,23 +1,21 @@
 -- What it is that a call of the board does as the rules of 01 say: the form of the theorem of every call.
-use Rattle.std.specs.Prelude.{◌≡◌, true, ℕ, ◌<◌, length}
+use Rattle.std.specs.Prelude.{◌≡◌, true, ℕ, ◌<◌, length, Result, Bool}
+use Rattle.std.specs.declared.result.Result.TheVariants.{Ok, Err}
+use Rattle.rules.specs.declared.Refusal.{Refusal}
 use Rattle.rules.specs.Board as rules
-use Rattle.domain.specs.declared.Told.{Told}
-use Rattle.domain.specs.declared.Told.TheVariants as told
-use Rattle.domain.specs.declared.Outcome.{Outcome}
-use Rattle.domain.specs.declared.Outcome.TheVariants as outcome
 use Rattle.board.specs.Rows.{id_at, domain_at}
 use Rattle.board.specs.Well.{well_board}
 use Rattle.board.specs.View.{view}
 use Rattle.board.specs.declared.Board.{Board}
 
 -- the answers, in the words of the rules
-abbrev pub told_of : Told → rules.Answer
-told_of (told.Is y) = rules.said y
-told_of (told.Refused r) = rules.denied r
+abbrev pub told_of : Result Bool Refusal → rules.Answer
+told_of (Ok y) = rules.said y
+told_of (Err r) = rules.denied r
 
-abbrev pub outcome_of : Outcome → rules.Answer
-outcome_of outcome.Done = rules.done
-outcome_of (outcome.Refused r) = rules.denied r
+abbrev pub outcome_of : Result Unit Refusal → rules.Answer
+outcome_of (Ok tt) = rules.done
+outcome_of (Err r) = rules.denied r
 
 -- what every board of a program has: all its cells
 pub record Whole (b : Board) : Type 0 where

@@ -1,10 +1,14 @@
 -- When a board is well formed, as 01 has it, and the row of a destination in one that is.
-use Rattle.std.specs.Prelude.{Bool, not, ◌&&◌, cond, List, ℕ, eqb, leb}
+use Rattle.std.specs.Prelude.{Bool, not, ◌&&◌, cond, List, ℕ, eqb, leb, ltb, Option, Result}
+use Rattle.std.specs.declared.option.Option.TheVariants.{None, Some}
+use Rattle.std.specs.declared.result.Result.TheVariants.{Ok, Err}
+use Rattle.rules.specs.declared.Refusal.{Refusal}
+use Rattle.rules.specs.declared.Refusal.TheVariants.{Broken}
 use Rattle.domain.specs.Set.{well, width}
 use Rattle.domain.specs.declared.BitDomain.{BitDomain}
 use Rattle.saved.specs.Upto.{upto}
 use Rattle.saved.specs.Saved.{fit_under}
-use Rattle.board.specs.Rows.{id_at, domain_at, seat_in}
+use Rattle.board.specs.Rows.{id_at, domain_at, nowhere, seat_in}
 use Rattle.board.specs.declared.Row.{Row}
 use Rattle.board.specs.declared.Board.{Board}
 
@@ -36,3 +40,14 @@ broken = 65
 
 unfoldable pub look_of : List Row → ℕ → List ℕ → ℕ → ℕ → ℕ
 look_of rows count ws marks i = cond (well_parts rows count ws marks) (seat_in (id_at rows) count i) broken
+
+-- a place as it is told: a row, no row, or why none is looked for
+abbrev pub row_told : ℕ → Option ℕ
+row_told p = cond (ltb p nowhere) (Some p) None
+
+abbrev pub seen : ℕ → Result (Option ℕ) Refusal
+seen p = cond (eqb p broken) (Err Broken) (Ok (row_told p))
+
+-- what the check alone tells
+abbrev pub checked_of : Board → Result Unit Refusal
+checked_of b = cond (well_board b) (Ok tt) (Err Broken)

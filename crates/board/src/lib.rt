@@ -2,14 +2,14 @@
 // and is handed back. What each call does is in the crates above; here is what they share: when a board is well formed,
 // and where a destination stands.
 //
-// look
+// look, look_among, check
 #![tactic(auto)]
 
 ghost use Rattle.std.specs.Prelude.{◌≡◌, true, ◌≤◌, ◌<◌, get_or};
-ghost use Rattle.board.specs.Well.{new_to, differ, well_row, look_of};
+ghost use Rattle.board.specs.Well.{new_to, differ, well_row, look_of, seen, checked_of};
 
-use domain::{BitDomain, Outcome, Told};
-use rules::Variable;
+use domain::BitDomain;
+use rules::{Refusal, Variable};
 use saved::Saved;
 
 // A destination and the chutes that it may still use.
@@ -33,20 +33,18 @@ pub struct Board {
 #[derive(Clone, Copy)]
 pub struct Closed {
     pub board: Board,
-    pub answer: Told,
+    pub answer: Result<bool, Refusal>,
 }
 
 // A board handed back by a call that has nothing else to tell.
 #[derive(Clone, Copy)]
 pub struct Settled {
     pub board: Board,
-    pub answer: Outcome,
+    pub answer: Result<(), Refusal>,
 }
 
-// What `look` answers where an id isn't registered, and where the board isn't well formed.
+// What `board_list::find` answers where an id isn't registered.
 pub const NOWHERE: usize = 64;
-
-pub const BROKEN: usize = 65;
 
 // Whether no number before place i equals n. Nothing ends it early, so that several are tested at a time.
 fn is_new(ids: &[u32; 64], i: usize, n: u32) -> bool
@@ -54,10 +52,8 @@ fn is_new(ids: &[u32; 64], i: usize, n: u32) -> bool
     ensures { result ≡ new_to (λ j. get_or ids.now j 0) i n }
 {
     let mut met = false;
-    let mut j = 0;
-    while j < i {
+    for j in 0..i {
         met = met | (ids[j] == n);
-        j += 1;
     }
     !met
 }
@@ -68,17 +64,13 @@ fn distinct(ids: &[u32; 64], count: usize) -> bool
     ensures { result ≡ differ (λ j. get_or ids.now j 0) count }
 {
     let mut met = [0u8; 1024];
-    let mut i = 0;
-    while i < count {
+    for i in 0..count {
         let n = ids[i];
         let h = (n % 1024) as usize;
-        if met[h] != 0 {
-            if !is_new(ids, i, n) {
-                return false;
-            }
+        if met[h] != 0 && !is_new(ids, i, n) {
+            return false;
         }
         met[h] = 1;
-        i += 1;
     }
     true
 }
@@ -89,10 +81,8 @@ fn rise(ids: &[u32; 64], count: usize) -> bool
     ensures { result ≡ true → differ (λ j. get_or ids.now j 0) count ≡ true }
 {
     let mut so = true;
-    let mut i = 0;
-    while i + 1 < count {
-        so = so & (ids[i] < ids[i + 1]);
-        i += 1;
+    for i in 1..count {
+        so = so & (ids[i - 1] < ids[i]);
     }
     so
 }
@@ -102,13 +92,10 @@ fn apart(ids: &[u32; 64], count: usize) -> bool
     requires { count ≤ 64 }
     ensures { result ≡ differ (λ j. get_or ids.now j 0) count }
 {
-    if rise(ids, count) {
-        return true;
-    }
-    distinct(ids, count)
+    rise(ids, count) || distinct(ids, count)
 }
 
-// Whether a row's domain is well formed, and every mask saved for it fits its universe: all of them together have to fit it.
+// Whether the domain of row i is well formed, and every mask saved for it fits its universe: all of them together have to fit it.
 fn is_well_row(d: BitDomain, ws: &Saved, marks: usize, i: usize) -> bool
     requires { (marks ≤ 8) × (i < 64) }
     ensures { result ≡ well_row ws.now marks i d }
@@ -117,33 +104,49 @@ fn is_well_row(d: BitDomain, ws: &Saved, marks: usize, i: usize) -> bool
     domain::inner::is_well(domain::inner::with_mask(d, joined))
 }
 
-// The one check of a board: whether it is well formed, and in which row an id stands.
-pub fn look(rows: [Row; 64], count: usize, ws: &Saved, marks: usize, id: Variable) -> usize
-    ensures { result ≡ look_of rows count ws.now marks id.0 }
+// The one check of a board, by its parts: whether it is well formed, and in which row an id stands, if it is registered. A call
+// that has taken a board apart gives them apart: so the saved words, which it hands on as they are, needn't be copied.
+pub fn look_among(
+    rows: &[Row; 64],
+    count: usize,
+    ws: &Saved,
+    marks: usize,
+    id: Variable,
+) -> Result<Option<usize>, Refusal>
+    ensures { result ≡ seen (look_of rows.now count ws.now marks id.0) }
 {
-    if 64 < count {
-        return BROKEN;
-    }
-    if 8 < marks {
-        return BROKEN;
+    if 64 < count || 8 < marks {
+        return Err(Refusal::Broken);
     }
     let mut ids = [0u32; 64];
-    let mut at = NOWHERE;
-    let mut i = 0;
-    while i < count {
+    let mut at = count;
+    for i in 0..count {
         let row = rows[i];
         if !is_well_row(row.domain, ws, marks, i) {
-            return BROKEN;
+            return Err(Refusal::Broken);
         }
-        let n = row.id.0;
-        ids[i] = n;
-        if n == id.0 {
+        ids[i] = row.id.0;
+        if row.id.0 == id.0 {
             at = i;
         }
-        i += 1;
     }
     if !apart(&ids, count) {
-        return BROKEN;
+        return Err(Refusal::Broken);
     }
-    at
+    Ok((at < count).then_some(at))
+}
+
+// The same, of a whole board.
+pub fn look(b: &Board, id: Variable) -> Result<Option<usize>, Refusal>
+    ensures { result ≡ seen (look_of b.now.rows b.now.count b.now.saved b.now.marks id.0) }
+{
+    look_among(&b.rows, b.count, &b.saved, b.marks, id)
+}
+
+// That check alone.
+pub fn check(b: &Board) -> Result<(), Refusal>
+    ensures { result ≡ checked_of b.now }
+{
+    look(b, Variable(0))?;
+    Ok(())
 }

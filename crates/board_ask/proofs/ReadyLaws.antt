@@ -1,13 +1,11 @@
 -- What the places of a list tell of it: its verdict, and whether every id in it is assigned.
-use Rattle.std.specs.Prelude.{◌≡◌, refl, Bool, true, List, [], ◌∷◌, ℕ, zero, suc, ◌<◌, ◌≤◌, length, get_or}
+use Rattle.std.specs.Prelude.{◌≡◌, refl, Bool, true, List, [], ◌∷◌, ℕ, zero, suc, ◌<◌, ◌≤◌, length, get_or, Result}
+use Rattle.std.specs.declared.result.Result.TheVariants.{Ok, Err}
 use Rattle.std.proofs.Common.{sym, ap, ◌∙◌, not-suc-le-zero, le_of_suc-le-suc, arith, lt-ltb}
 use Rattle.mask.specs.Tests.{same_test}
 use Rattle.rules.specs.Board as rules
 use Rattle.rules.specs.Sets.{every}
 use Rattle.rules.specs.declared.Refusal.{Refusal}
-use Rattle.domain.specs.declared.Outcome.{Outcome}
-use Rattle.domain.specs.declared.Outcome.TheVariants as outcome
-use Rattle.domain.specs.declared.Told.TheVariants as told
 use Rattle.saved.specs.Upto.{upto}
 use Rattle.saved.proofs.UptoLaws.{and-says, all, each, agree}
 use Rattle.board.specs.Rows.{id_at, domain_at, seat, nowhere}
@@ -40,24 +38,24 @@ module _ (g : ℕ → Bool) where
 
 -- ---- a list whose places were looked for
 
-module _ (b : Board) (w : well_board b ≡ true) (is at₀ at : List ℕ) (long : length at₀ ≡ 64) (o : Outcome) (e : placed o at ≡ places_of (id_at b.rows) b.count is at₀) where
+module _ (b : Board) (w : well_board b ≡ true) (is at₀ at : List ℕ) (long : length at₀ ≡ 64) (o : Result Unit Refusal) (e : placed o at ≡ places_of (id_at b.rows) b.count is at₀) where
   answer-is : o ≡ answer_of (rules.listing is (view b).now)
   answer-is = ap (λ (r : Placed). r.answer) (e ∙ seats-view b is at₀)
 
   -- it is refused as the rules say
-  pub ready_refused : (r : Refusal) → o ≡ outcome.Refused r → told.Refused r ≡ ready_of b is
+  pub ready_refused : (r : Refusal) → o ≡ Err r → Err r ≡ ready_of b is
   unfolding ready_of
   ready_refused r q = rw w (go (rules.listing is (view b).now) (sym q ∙ answer-is))
     where
-      go : (v : rules.Verdict) → outcome.Refused r ≡ answer_of v → told.Refused r ≡ judge v (every (λ i. assigned (domain_of b i)) is)
+      go : (v : rules.Verdict) → Err r ≡ answer_of v → Err r ≡ judge v (every (λ i. assigned (domain_of b i)) is)
       go rules.accepted p = let z : ◌≡◌ {A = ℕ} 0 1 = cc in absurd (omega arith)
       go (rules.refused s) p = cc
 
-  module _ (q : o ≡ outcome.Done) where
+  module _ (q : o ≡ Ok tt) where
     taken : rules.listing is (view b).now ≡ rules.accepted
     taken = go (rules.listing is (view b).now) (sym q ∙ answer-is)
       where
-        go : (v : rules.Verdict) → outcome.Done ≡ answer_of v → v ≡ rules.accepted
+        go : (v : rules.Verdict) → Ok tt ≡ answer_of v → v ≡ rules.accepted
         go rules.accepted p = refl
         go (rules.refused s) p = let z : ◌≡◌ {A = ℕ} 0 1 = cc in absurd (omega arith)
 
@@ -71,11 +69,11 @@ module _ (b : Board) (w : well_board b ≡ true) (is at₀ at : List ℕ) (long 
     ready-below p l = rw (cell-is p l) (listed-seat b is at₀ taken w p l)
 
     -- and else it is told whether every id in it is assigned
-    pub ready-told : (y : Bool) → y ≡ upto (λ p. assigned (domain_at b.rows (get_or at p 0))) (length is) → told.Is y ≡ ready_of b is
+    pub ready-told : (y : Bool) → y ≡ upto (λ p. assigned (domain_at b.rows (get_or at p 0))) (length is) → Ok y ≡ ready_of b is
     unfolding ready_of
     ready-told y h =
         rw (w, taken)
-        (ap told.Is
+        (ap Ok
         (h
         ∙ agree (λ p. assigned (domain_at b.rows (get_or at p 0))) (λ p. assigned (domain_of b (get_or is p 0))) (length is) (λ p l. ap assigned (here p l))
         ∙ upto-every (λ i. assigned (domain_of b i)) is))

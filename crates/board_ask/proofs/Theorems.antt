@@ -1,5 +1,7 @@
 -- Every question answers as the rules say, on every well-formed board; one that isn't is refused.
 use Rattle.std.specs.Prelude.{◌≡◌, refl, Bool, true, false, not, cond, List, [], ◌∷◌, ◌++◌, ℕ, zero, suc, ◌+◌, ◌<◌, ◌≤◌, ltb, ℤ, pos, length}
+use Rattle.std.specs.declared.result.Result.TheVariants.{Ok, Err}
+use Rattle.std.specs.declared.option.Option.TheVariants.{None, Some}
 use Rattle.std.proofs.Common.{sym, ap, ◌∙◌, add-one, arith, ltb-true, ltb-false, le-leb}
 use Rattle.std.proofs.lemmas.Bool.{lt-leb}
 use Rattle.rules.specs.Board as rules
@@ -9,12 +11,8 @@ use Rattle.rules.specs.declared.Variable.{Variable}
 use Rattle.domain.specs.Set.{set_of, well}
 use Rattle.domain.specs.Calls.{invalid, size_of, is_fixed_of, fixed_value_of, is_empty_of, min_of, max_of}
 use Rattle.domain.specs.declared.BitDomain.{BitDomain}
-use Rattle.domain.specs.declared.Counted.TheVariants as counted
-use Rattle.domain.specs.declared.Found.TheVariants as found
-use Rattle.domain.specs.declared.Told.TheVariants as told
 use Rattle.domain.proofs.Theorems.{values-ascend, invalid-well, bare_set}
 use Rattle.domain_values.specs.Calls.{written, iter_of, to_vec_of}
-use Rattle.domain_values.specs.declared.Begun.TheVariants as begun
 use Rattle.board.specs.Rows.{id_at, domain_at, row_at, seat, nowhere}
 use Rattle.board.specs.Well.{well_board}
 use Rattle.board.specs.View.{view}
@@ -28,55 +26,52 @@ use Rattle.board_ask.specs.Names.{names_of, named_by, yields, cursor_at, walk_of
 use Rattle.board_ask.specs.Ready.{assigned, judge, ready_of}
 use Rattle.board_ask.specs.Answers.{count_of, chute_of, ends_told, held_by}
 use Rattle.board_ask.specs.declared.IdCursor.{IdCursor}
-use Rattle.board_ask.specs.declared.Bounds.TheVariants as bounds
-use Rattle.board_ask.specs.declared.Walk.TheVariants as walk
-use Rattle.board_ask.specs.declared.Named.TheVariants as named
 use Rattle.board_ask.proofs.EndLaws.{ends-are, only-is}
 
 -- ---- a board that isn't well formed is refused, and no cell is written
 
 module _ (b : Board) (w : well_board b ≡ false) (id : Variable) where
-  pub size-refuses : domain_size_of b id ≡ counted.Refused Broken
+  pub size-refuses : domain_size_of b id ≡ Err Broken
   unfolding domain_size_of
   size-refuses = rw w
 
-  pub assigned-refuses : is_assigned_of b id ≡ told.Refused Broken
+  pub assigned-refuses : is_assigned_of b id ≡ Err Broken
   unfolding is_assigned_of
   assigned-refuses = rw w
 
-  pub value-refuses : assigned_value_of b id ≡ found.Refused Broken
+  pub value-refuses : assigned_value_of b id ≡ Err Broken
   unfolding assigned_value_of
   value-refuses = rw w
 
-  pub inconsistent-refuses : is_inconsistent_of b id ≡ told.Refused Broken
+  pub inconsistent-refuses : is_inconsistent_of b id ≡ Err Broken
   unfolding is_inconsistent_of
   inconsistent-refuses = rw w
 
-  pub bounds-refuses : get_bounds_of b id ≡ bounds.Refused Broken
+  pub bounds-refuses : get_bounds_of b id ≡ Err Broken
   unfolding get_bounds_of
   bounds-refuses = rw w
 
-  pub values-refuses : get_values_of b id ≡ begun.Refused Broken
+  pub values-refuses : get_values_of b id ≡ Err Broken
   unfolding get_values_of
   values-refuses = rw w
 
-  pub into-refuses : (cells : List ℤ) → get_into_of b id cells ≡ written (counted.Refused Broken) cells
+  pub into-refuses : (cells : List ℤ) → get_into_of b id cells ≡ written (Err Broken) cells
   unfolding get_into_of
   into-refuses cells = rw w
 
-  pub variables-refuses : walk_of b ≡ walk.Refused Broken
+  pub variables-refuses : walk_of b ≡ Err Broken
   unfolding walk_of
   variables-refuses = rw w
 
-  pub next-refuses : (c : IdCursor) → next_id_of b c ≡ record { cursor = c; answer = named.Refused Broken }
+  pub next-refuses : (c : IdCursor) → next_id_of b c ≡ record { cursor = c; answer = Err Broken }
   unfolding next_id_of
   next-refuses c = rw w
 
-  pub ids-refuses : (cells : List ℕ) → ids_into_of b cells ≡ filled (counted.Refused Broken) cells
+  pub ids-refuses : (cells : List ℕ) → ids_into_of b cells ≡ filled (Err Broken) cells
   unfolding ids_into_of
   ids-refuses cells = rw w
 
-  pub ready-refuses : (is : List ℕ) → ready_of b is ≡ told.Refused Broken
+  pub ready-refuses : (is : List ℕ) → ready_of b is ≡ Err Broken
   unfolding ready_of
   ready-refuses is = rw w
 
@@ -108,38 +103,38 @@ module _ (b : Board) (w : well_board b ≡ true) where
 
     pub size-answers : count_of (domain_size_of b id) ≡ rules.answer (rules.ask (rules.size_of id.0)) (view b)
     unfolding domain_size_of size_of
-    size-answers = by-domain size_of (counted.Refused Broken) (λ a s. count_of a ≡ rules.count (length s)) (λ d v. rw v)
+    size-answers = by-domain size_of (Err Broken) (λ a s. count_of a ≡ rules.count (length s)) (λ d v. rw v)
 
     pub assigned-answers : told_of (is_assigned_of b id) ≡ rules.answer (rules.ask (rules.assigned id.0)) (view b)
     unfolding is_assigned_of is_fixed_of
-    assigned-answers = by-domain is_fixed_of (told.Refused Broken) (λ a s. told_of a ≡ rules.said (rules.single s)) (λ d v. rw v)
+    assigned-answers = by-domain is_fixed_of (Err Broken) (λ a s. told_of a ≡ rules.said (rules.single s)) (λ d v. rw v)
 
     pub value-answers : chute_of (assigned_value_of b id) ≡ rules.answer (rules.ask (rules.value_of id.0)) (view b)
     unfolding assigned_value_of fixed_value_of
     value-answers =
-        by-domain fixed_value_of (found.Refused Broken)
+        by-domain fixed_value_of (Err Broken)
         (λ a s. chute_of a ≡ rules.judged (rules.unless (rules.single s) Empty rules.accepted) (rules.only_of s)) (λ d v. rw v (only-is (set_of d)))
 
     pub inconsistent-answers : told_of (is_inconsistent_of b id) ≡ rules.answer (rules.ask (rules.inconsistent id.0)) (view b)
     unfolding is_inconsistent_of is_empty_of
-    inconsistent-answers = by-domain is_empty_of (told.Refused Broken) (λ a s. told_of a ≡ rules.said (not (some s))) (λ d v. rw v)
+    inconsistent-answers = by-domain is_empty_of (Err Broken) (λ a s. told_of a ≡ rules.said (not (some s))) (λ d v. rw v)
 
     pub bounds-answers : ends_told (get_bounds_of b id) ≡ rules.answer (rules.ask (rules.bounds_of id.0)) (view b)
     unfolding get_bounds_of min_of max_of
     bounds-answers =
-        by-domain ends_of (bounds.Refused Broken)
+        by-domain ends_of (Err Broken)
         (λ a s. ends_told a ≡ rules.judged (rules.unless (some s) Empty rules.accepted) (rules.ends_of s))
         (λ d v. rw v (ends-are (set_of d) (values-ascend d.min d.mask)))
 
     -- the cursor has just the chutes to yield
     pub values-answers : held_by (get_values_of b id) ≡ rules.answer (rules.ask (rules.values_of id.0)) (view b)
     unfolding get_values_of iter_of
-    values-answers = by-domain iter_of (begun.Refused Broken) (λ a s. held_by a ≡ rules.held s) (λ d v. rw v)
+    values-answers = by-domain iter_of (Err Broken) (λ a s. held_by a ≡ rules.held s) (λ d v. rw v)
 
     -- the chutes are written, if there is room for them
     pub into-writes : (cells : List ℤ) → get_into_of b id cells ≡ write_of (rules.domain (view b).now id.0) cells
     unfolding get_into_of to_vec_of
-    into-writes cells = by-domain (λ d. to_vec_of d cells) (written (counted.Refused Broken) cells) (λ a s. a ≡ write_of s cells) (λ d v. rw v)
+    into-writes cells = by-domain (λ d. to_vec_of d cells) (written (Err Broken) cells) (λ a s. a ≡ write_of s cells) (λ d v. rw v)
 
   -- ---- ids in order of registration
 
@@ -150,16 +145,16 @@ module _ (b : Board) (w : well_board b ≡ true) where
   unfolding ids_into_of
   ids-write cells = rw w (ap (λ (l : List ℕ). fill_of l cells) names-are)
 
-  pub variables-begin : walk_of b ≡ walk.Cursor (cursor_at 0)
+  pub variables-begin : walk_of b ≡ Ok (cursor_at 0)
   unfolding walk_of
   variables-begin = rw w
 
   -- a walk tells the ids from its place on, and ends
-  pub next-tells : (c : IdCursor) → c.at < b.count → next_id_of b c ≡ record { cursor = cursor_at (c.at + 1); answer = named.Next (row_at b.rows c.at).id }
+  pub next-tells : (c : IdCursor) → c.at < b.count → next_id_of b c ≡ record { cursor = cursor_at (c.at + 1); answer = Ok (Some (row_at b.rows c.at).id) }
   unfolding next_id_of
   next-tells c l = rw (w, lt-leb b.count c.at l)
 
-  pub next-ends : (c : IdCursor) → b.count ≤ c.at → next_id_of b c ≡ record { cursor = c; answer = named.End }
+  pub next-ends : (c : IdCursor) → b.count ≤ c.at → next_id_of b c ≡ record { cursor = c; answer = Ok None }
   unfolding next_id_of
   next-ends c l = rw (w, le-leb b.count c.at l)
 

@@ -1,5 +1,8 @@
 -- The domain that a question is about.
-use Rattle.std.specs.Prelude.{cond, List, ℕ, ltb}
+use Rattle.std.specs.Prelude.{cond, List, ℕ, ltb, Result}
+use Rattle.std.specs.declared.result.Result.TheVariants.{Ok, Err}
+use Rattle.rules.specs.declared.Refusal.{Refusal}
+use Rattle.rules.specs.declared.Refusal.TheVariants.{Broken}
 use Rattle.domain.specs.Calls.{invalid}
 use Rattle.domain.specs.declared.BitDomain.{BitDomain}
 use Rattle.rules.specs.declared.Variable.{Variable}
@@ -7,8 +10,6 @@ use Rattle.board.specs.Rows.{id_at, domain_at, seat_in, nowhere}
 use Rattle.board.specs.Well.{well_parts, well_board}
 use Rattle.board.specs.declared.Row.{Row}
 use Rattle.board.specs.declared.Board.{Board}
-use Rattle.board_ask.specs.declared.ask.Sought.{Sought}
-use Rattle.board_ask.specs.declared.ask.Sought.TheVariants as sought
 
 -- that of the id's row; of an id that isn't registered, a domain of no chutes
 abbrev pub domain_in : List Row → ℕ → ℕ → BitDomain
@@ -17,8 +18,8 @@ domain_in rows count i = let p = seat_in (id_at rows) count i in cond (ltb p now
 abbrev pub domain_of : Board → ℕ → BitDomain
 domain_of b i = domain_in b.rows b.count i
 
-unfoldable pub sought_of : List Row → ℕ → List ℕ → ℕ → ℕ → Sought
-sought_of rows count ws marks i = cond (well_parts rows count ws marks) (sought.Domain (domain_in rows count i)) sought.Broken
+unfoldable pub sought_of : List Row → ℕ → List ℕ → ℕ → ℕ → Result BitDomain Refusal
+sought_of rows count ws marks i = cond (well_parts rows count ws marks) (Ok (domain_in rows count i)) (Err Broken)
 
 -- what a question answers of a board: of one that isn't well formed, a refusal
 abbrev pub asked : {A : Type 0} → (BitDomain → A) → A → Board → Variable → A

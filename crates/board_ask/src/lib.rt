@@ -21,37 +21,15 @@ pub use ask::{
 pub use ids::{next_variable, variables, variables_into};
 pub use list::ready;
 
-// The smallest and the largest chute.
-#[derive(Clone, Copy)]
-pub enum Bounds {
-    Between(Value, Value),
-    Refused(Refusal),
-}
-
 // Where a walk over a board's ids stands: a place among its rows. It has ended at or past their count.
 #[derive(Clone, Copy)]
 pub struct IdCursor {
     pub at: usize,
 }
 
-// What a call that begins a walk answers.
-#[derive(Clone, Copy)]
-pub enum Walk {
-    Cursor(IdCursor),
-    Refused(Refusal),
-}
-
-// The next id, or that there is none.
-#[derive(Clone, Copy)]
-pub enum Named {
-    Next(Variable),
-    End,
-    Refused(Refusal),
-}
-
 // A cursor handed back, and what it yielded.
 #[derive(Clone, Copy)]
 pub struct Walked {
     pub cursor: IdCursor,
-    pub answer: Named,
+    pub answer: Result<Option<Variable>, Refusal>,
 }

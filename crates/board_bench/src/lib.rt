@@ -6,57 +6,29 @@
 // It is a crate of its own so that each call has one caller here, as in a program that works with a board in one place.
 #![tactic(auto)]
 
-ghost use Rattle.std.specs.Prelude.{◌≤◌};
-
 use board::Board;
-use board_spread::Pair;
-use domain::{Counted, Outcome, Told};
-use rules::{Value, Variable};
+use rules::{Pair, Refusal, Value, Variable};
 
-fn plus(a: u64, b: u64) -> u64 {
-    std::num::wrapping_add_u64(a, b)
+// What a refusal adds to a sum.
+const REFUSED: u64 = 1000;
+
+fn told(answer: Result<bool, Refusal>) -> u64 {
+    answer.map_or(REFUSED, u64::from)
 }
 
-fn told(t: Told) -> u64 {
-    match t {
-        Told::Is(yes) => {
-            if yes {
-                return 1;
-            }
-            0
-        }
-        Told::Refused(_) => 1000,
-    }
+fn outcome(answer: Result<(), Refusal>) -> u64 {
+    answer.map_or(REFUSED, |_| 1)
 }
 
-fn outcome(o: Outcome) -> u64 {
-    match o {
-        Outcome::Done => 1,
-        Outcome::Refused(_) => 1000,
-    }
+fn counted(answer: Result<usize, Refusal>) -> u64 {
+    answer.map_or(REFUSED, |n| n as u64)
 }
 
-fn counted(c: Counted) -> u64 {
-    match c {
-        Counted::Count(n) => n as u64,
-        Counted::Refused(_) => 1000,
-    }
-}
-
-fn bit(yes: bool) -> u64
-    ensures { result ≤ 1 }
-{
-    if yes {
-        return 1;
-    }
-    0
-}
-
-fn pair(p: Pair) -> u64 {
-    match p {
-        Pair::Is(changed, consistent) => 2 * bit(changed) + bit(consistent),
-        Pair::Refused(_) => 1000,
-    }
+fn pair(answer: Result<Pair, Refusal>) -> u64 {
+    answer.map_or(
+        REFUSED,
+        |p| 2 * u64::from(p.changed) + u64::from(p.consistent),
+    )
 }
 
 fn chute(i: usize) -> Value {
@@ -70,15 +42,11 @@ fn id(i: usize) -> Variable {
 // The board of all loops: so many of the first destinations are assigned, each to a chute of its own.
 fn set_up(assigned: usize) -> Board {
     let mut b = board_enter::new();
-    let mut i = 0;
-    while i < 64 {
-        let s = board_enter::add_variable(b, id(i), Value(0), Value(63));
-        b = s.board;
+    for i in 0..64 {
+        b = board_enter::add_variable(b, id(i), Value(0), Value(63)).board;
         if i < assigned {
-            let c = board_close::assign_variable(b, id(i), chute(i));
-            b = c.board;
+            b = board_close::assign_variable(b, id(i), chute(i)).board;
         }
-        i += 1;
     }
     b
 }
@@ -86,11 +54,8 @@ fn set_up(assigned: usize) -> Board {
 // The same with none assigned, and so many marks open.
 fn set_up_marked(marks: usize) -> Board {
     let mut b = set_up(0);
-    let mut m = 0;
-    while m < marks {
-        let s = trial::mark(b);
-        b = s.board;
-        m += 1;
+    for _ in 0..marks {
+        b = trial::mark(b).board;
     }
     b
 }
@@ -98,71 +63,56 @@ fn set_up_marked(marks: usize) -> Board {
 pub fn bench_propagate(assigned: usize, turns: usize, list: &[u32]) -> u64 {
     let start = set_up(assigned);
     let mut sum: u64 = 0;
-    let mut i = 0;
-    while i < turns {
+    for _ in 0..turns {
         let done = board_spread::propagate_alldiff(start, list);
-        let answer = done.answer;
-        let after = done.board;
-        let rows = after.rows;
-        let last = rows[63];
-        sum = plus(sum, pair(answer)) ^ last.domain.mask.lo;
-        i += 1;
+        sum = sum.wrapping_add(pair(done.answer)) ^ done.board.rows[63].domain.mask.lo;
+    }
+    sum
+}
+
+// So many turns, each on the board that the last one handed back.
+fn in_turn<F: Fn(Board, usize) -> (Board, u64)>(start: Board, turns: usize, turn: F) -> u64
+    requires { F.IsAlwaysCallable turn }
+{
+    let mut b = start;
+    let mut sum: u64 = 0;
+    for i in 0..turns {
+        let (next, answer) = turn(b, i);
+        b = next;
+        sum = sum.wrapping_add(answer);
     }
     sum
 }
 
 pub fn bench_close(marks: usize, turns: usize) -> u64 {
-    let mut b = set_up_marked(marks);
-    let mut sum: u64 = 0;
-    let mut i = 0;
-    while i < turns {
+    in_turn(set_up_marked(marks), turns, |b, i| {
         let done = board_close::remove_value(b, id(i), chute(i / 64));
-        b = done.board;
-        let answer = done.answer;
-        sum = plus(sum, told(answer));
-        i += 1;
-    }
-    sum
+        (done.board, told(done.answer))
+    })
 }
 
 pub fn bench_enter(turns: usize) -> u64 {
-    let mut b = set_up(0);
-    let mut sum: u64 = 0;
-    let mut i = 0;
-    while i < turns {
+    in_turn(set_up(0), turns, |b, i| {
         let done = board_enter::add_variable(b, id(i), Value(0), Value(63));
-        b = done.board;
-        let answer = done.answer;
-        sum = plus(sum, outcome(answer));
-        i += 1;
-    }
-    sum
+        (done.board, outcome(done.answer))
+    })
 }
 
 pub fn bench_ask(turns: usize) -> u64 {
     let b = set_up(0);
-    let mut sum: u64 = 0;
-    let mut i = 0;
-    while i < turns {
-        sum = plus(sum, counted(board_ask::domain_size(b, id(i))));
-        i += 1;
-    }
-    sum
+    (0..turns).fold(
+        0u64,
+        |sum, i| sum.wrapping_add(counted(board_ask::domain_size(b, id(i)))),
+    )
 }
 
 pub fn bench_trial(turns: usize) -> u64 {
-    let mut b = set_up(0);
-    let mut sum: u64 = 0;
-    let mut i = 0;
-    while i < turns {
+    in_turn(set_up(0), turns, |b, _| {
         let opened = trial::mark(b);
-        b = opened.board;
-        let first = opened.answer;
-        let closed = trial::restore(b);
-        b = closed.board;
-        let second = closed.answer;
-        sum = plus(plus(sum, outcome(first)), outcome(second));
-        i += 1;
-    }
-    sum
+        let closed = trial::restore(opened.board);
+        (
+            closed.board,
+            outcome(opened.answer).wrapping_add(outcome(closed.answer)),
+        )
+    })
 }

@@ -1,5 +1,6 @@
 -- The closings and the flag's calls do as the rules say, on every well-formed board; one that isn't comes back as it came.
 use Rattle.std.specs.Prelude.{◌≡◌, refl, Bool, true, false, ◌||◌, ◌<◌, ◌≤◌, ltb, length}
+use Rattle.std.specs.declared.result.Result.TheVariants.{Err}
 use Rattle.std.proofs.Common.{sym, ap, ◌∙◌, subst, length-set, ltb-true, ltb-false}
 use Rattle.rules.specs.Sets.{Chutes, keep}
 use Rattle.rules.specs.Board as rules
@@ -8,7 +9,6 @@ use Rattle.rules.specs.declared.Variable.{Variable}
 use Rattle.rules.specs.declared.Value.{Value}
 use Rattle.rules.proofs.CallLaws.{unknown-nothing}
 use Rattle.domain.specs.Set.{set_of}
-use Rattle.domain.specs.declared.Told.TheVariants as told
 use Rattle.domain.proofs.Theorems.{narrowed-set, narrowed-well}
 use Rattle.board.specs.Rows.{id_at, domain_at, nowhere, seat}
 use Rattle.board.specs.Well.{well_board}
@@ -89,6 +89,6 @@ module _ (b : Board) where
   unfolding changed_of
   changed-answers w = rw w
 
-  pub changed-refuses : well_board b ≡ false → changed_of b ≡ told.Refused Broken
+  pub changed-refuses : well_board b ≡ false → changed_of b ≡ Err Broken
   unfolding changed_of
   changed-refuses w = rw w

@@ -1,5 +1,7 @@
 -- What each closing answers and what board it hands back, on every input.
-use Rattle.std.specs.Prelude.{false, ◌||◌, cond, ℕ, ltb, ℤ}
+use Rattle.std.specs.Prelude.{false, ◌||◌, cond, ℕ, ltb, ℤ, Result, Bool}
+use Rattle.std.specs.declared.result.Result.TheVariants.{Ok, Err}
+use Rattle.rules.specs.declared.Refusal.{Refusal}
 use Rattle.rules.specs.Sets.{keep}
 use Rattle.rules.specs.Board as rules
 use Rattle.rules.specs.declared.Refusal.TheVariants.{Broken}
@@ -7,8 +9,6 @@ use Rattle.rules.specs.declared.Value.{Value}
 use Rattle.rules.specs.declared.Variable.{Variable}
 use Rattle.domain.specs.Set.{set_of, holding}
 use Rattle.domain.specs.declared.BitDomain.{BitDomain}
-use Rattle.domain.specs.declared.Told.{Told}
-use Rattle.domain.specs.declared.Told.TheVariants as told
 use Rattle.board.specs.Rows.{domain_at, nowhere, seat, with_domain, with_rows}
 use Rattle.board.specs.Well.{well_board}
 use Rattle.board.specs.Answers.{said, done, said_of, done_of}
@@ -42,5 +42,5 @@ close_of k b id v =
 unfoldable pub reset_of : Board → Settled
 reset_of b = done_of b (done (with_rows b b.rows false))
 
-unfoldable pub changed_of : Board → Told
-changed_of b = cond (well_board b) (told.Is b.changed) (told.Refused Broken)
+unfoldable pub changed_of : Board → Result Bool Refusal
+changed_of b = cond (well_board b) (Ok b.changed) (Err Broken)

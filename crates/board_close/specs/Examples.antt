@@ -1,5 +1,6 @@
 -- Closings on a small board, run. Assumes nothing.
 use Rattle.std.specs.Prelude.{◌≡◌, refl, true, false, ℕ, pos, replicate}
+use Rattle.std.specs.declared.result.Result.TheVariants.{Ok}
 use Rattle.mask.specs.Val.{val, mask_of}
 use Rattle.mask.specs.Sets.{members_from, members_in}
 use Rattle.offset.specs.Places.{span_of}
@@ -8,7 +9,6 @@ use Rattle.rules.specs.declared.Refusal.TheVariants.{Broken}
 use Rattle.rules.specs.declared.Value.{Value}
 use Rattle.rules.specs.declared.Variable.{Variable}
 use Rattle.domain.specs.Set.{values_of, well, bits_of}
-use Rattle.domain.specs.declared.Told.TheVariants as told
 use Rattle.board.specs.Well.{well_parts}
 use Rattle.board.specs.Answers.{said, unsaid, done}
 use Rattle.board.specs.Examples.{pair, two, ill}
@@ -60,6 +60,6 @@ cleared : reset_of (left 7 3) ≡ done two
 unfolding reset_of well_parts well span_of val
 cleared = refl
 
-told-set : changed_of (left 7 3) ≡ told.Is true
+told-set : changed_of (left 7 3) ≡ Ok true
 unfolding changed_of well_parts well span_of val
 told-set = refl

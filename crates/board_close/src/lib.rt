@@ -14,7 +14,6 @@ ghost use Rattle.board_close.specs.Close.{close_of, reset_of, changed_of};
 
 use board::{Board, Closed, Row, Settled};
 use closing::Kind;
-use domain::{Outcome, Told};
 use rules::{Refusal, Value, Variable};
 
 pub mod inner;
@@ -26,35 +25,32 @@ pub struct Shut {
     pub yes: bool,
 }
 
-// The row of the destination is closed by v, and the flag set if that took a chute.
+// The row of the destination is closed by v, and the flag set if that took a chute. The board is taken apart, and put together at
+// one place, so that the saved words are handed on and not copied.
 pub fn close(b: Board, kind: Kind, id: Variable, v: Value) -> Closed
     ensures { result ≡ close_of (kind_of kind) b id v }
 {
     let mut rows = b.rows;
-    let count = b.count;
     let saved = b.saved;
-    let marks = b.marks;
-    let at = board::look(rows, count, &saved, marks, id);
+    let looked = board::look_among(&rows, b.count, &saved, b.marks, id);
     let mut yes = false;
-    if at < board::NOWHERE {
-        let row = rows[at];
-        let s = inner::shut_row(row, kind, v);
-        let next = s.row;
-        rows[at] = next;
-        yes = s.yes;
+    if let Ok(place) = looked {
+        if let Some(at) = place {
+            let s = inner::shut_row(rows[at], kind, v);
+            rows[at] = s.row;
+            yes = s.yes;
+        }
     }
     Closed {
         board: Board {
             rows,
-            count,
             saved,
-            marks,
             changed: b.changed | yes,
+            ..b
         },
-        answer: if at == board::BROKEN {
-            Told::Refused(Refusal::Broken)
-        } else {
-            Told::Is(yes)
+        answer: match looked {
+            Ok(_) => Ok(yes),
+            Err(r) => Err(r),
         },
     }
 }
@@ -83,38 +79,18 @@ pub fn remove_above(b: Board, id: Variable, v: Value) -> Closed
     close(b, Kind::Above, id, v)
 }
 
-// Any id will do for the check. A flag that is set stays only where the board is refused.
-pub fn reset_changed_flag(b: Board) -> Settled
+// A flag that is set stays only where the board is refused.
+pub fn reset_changed_flag(mut b: Board) -> Settled
     ensures { result ≡ reset_of b }
 {
-    let rows = b.rows;
-    let count = b.count;
-    let saved = b.saved;
-    let marks = b.marks;
-    let broken = board::look(rows, count, &saved, marks, Variable(0)) == board::BROKEN;
-    Settled {
-        board: Board {
-            rows,
-            count,
-            saved,
-            marks,
-            changed: b.changed & broken,
-        },
-        answer: if broken {
-            Outcome::Refused(Refusal::Broken)
-        } else {
-            Outcome::Done
-        },
-    }
+    let answer = board::check(&b);
+    b.changed = b.changed & answer.is_err();
+    Settled { board: b, answer }
 }
 
-pub fn domains_changed(b: Board) -> Told
+pub fn domains_changed(b: Board) -> Result<bool, Refusal>
     ensures { result ≡ changed_of b }
 {
-    let rows = b.rows;
-    let saved = b.saved;
-    if board::look(rows, b.count, &saved, b.marks, Variable(0)) == board::BROKEN {
-        return Told::Refused(Refusal::Broken);
-    }
-    Told::Is(b.changed)
+    board::check(&b)?;
+    Ok(b.changed)
 }

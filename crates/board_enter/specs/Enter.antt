@@ -1,12 +1,12 @@
 -- What a new board is, and what a registration answers and hands back, on every input.
-use Rattle.std.specs.Prelude.{true, false, ◌||◌, cond, List, ℕ, ◌+◌, eqb, ltb, set, replicate}
+use Rattle.std.specs.Prelude.{true, false, cond, List, ℕ, ◌+◌, eqb, ltb, set, replicate, Result}
+use Rattle.std.specs.declared.result.Result.TheVariants.{Ok, Err}
+use Rattle.rules.specs.declared.Refusal.{Refusal}
 use Rattle.rules.specs.declared.Refusal.TheVariants.{Broken, Full, TrialOpen}
 use Rattle.rules.specs.declared.Variable.{Variable}
 use Rattle.domain.specs.declared.BitDomain.{BitDomain}
-use Rattle.domain.specs.declared.Outcome.{Outcome}
-use Rattle.domain.specs.declared.Outcome.TheVariants as outcome
 use Rattle.board.specs.Rows.{row0, nowhere, seat}
-use Rattle.board.specs.Well.{broken}
+use Rattle.board.specs.Well.{well_board}
 use Rattle.board.specs.Answers.{done, denied, done_of}
 use Rattle.board.specs.declared.Row.{Row}
 use Rattle.board.specs.declared.Board.{Board}
@@ -37,16 +37,12 @@ enter_of b id d =
     (denied b Full)))
     (denied b TrialOpen))
 
--- ---- the steps of the code, by what `look` answered
-
-abbrev pub judge_of : ℕ → ℕ → ℕ → ℕ
-judge_of at count marks = cond (eqb at broken) 1 (cond (eqb marks 0) (cond (ltb at nowhere || ltb count 64) 0 2) 3)
-
-abbrev pub settle_of : ℕ → Outcome
-settle_of n = cond (eqb n 0) outcome.Done (outcome.Refused (cond (eqb n 1) Broken (cond (eqb n 3) TrialOpen Full)))
-
-abbrev pub place_for : ℕ → ℕ → ℕ
-place_for at count = cond (ltb at nowhere) at count
-
-abbrev pub grown_to : ℕ → ℕ → ℕ
-grown_to at count = cond (ltb at nowhere) count (count + 1)
+-- the row of a destination that is registered, or why it isn't
+abbrev pub row_for : Board → Variable → Result ℕ Refusal
+row_for b id =
+    let p = seat b id.0 in
+    cond (well_board b)
+    (cond (eqb b.marks 0)
+    (cond (ltb p nowhere) (Ok p) (cond (ltb b.count 64) (Ok b.count) (Err Full)))
+    (Err TrialOpen))
+    (Err Broken)

@@ -1,91 +1,83 @@
 // The closings of a board's destinations through a reference: what stands behind it is closed in place, and the answer is that
 // of the call by value. A refused call leaves it as it was.
 //
-// remove_value, assign_variable, remove_below, remove_above; each is thin over the call of `board_close` by its name.
+// remove_value, assign_variable, remove_below, remove_above; each is the call of `board_close` by its name, made in place.
 // remove_value_here, assign_variable_here, ..: the same by value, each lending a local to the call above it, for callers that hold no reference
 #![tactic(auto)]
 
 ghost use Rattle.std.specs.Prelude.{◌≡◌};
+ghost use Rattle.std.specs.Fn.{FnOnceReturnsAtMut};
 ghost use Rattle.rules.specs.Board.{remove, assign, below, above};
 ghost use Rattle.board_close.specs.Close.{close_of};
 ghost use Rattle.board_in_place.specs.Behind.{closed};
 
 use board::{Board, Closed};
-use domain::Told;
-use rules::{Value, Variable};
+use rules::{Refusal, Value, Variable};
 
-pub fn remove_value(b: &mut Board, id: Variable, v: Value) -> Told
-    ensures { closed b.new result ≡ close_of remove b.old id v }
+// What the call by value hands back stands behind the reference then.
+fn in_place<F: FnOnce(Board) -> Closed>(b: &mut Board, call: F) -> Result<bool, Refusal>
+    requires { F.pre call b.old }
+    ensures { F.post call b.old (closed b.new result) }
 {
-    let r = board_close::remove_value(*b, id, v);
+    let r = call(*b);
     *b = r.board;
     r.answer
+}
+
+// A local is lent to the call through a reference.
+fn lent<F: FnOnce(&mut Board) -> Result<bool, Refusal>>(b: Board, call: F) -> Closed
+    requires { F.IsAlwaysCallable call }
+    ensures { FnOnceReturnsAtMut F.FnOnce call b result.answer result.board }
+{
+    let mut board = b;
+    let answer = call(&mut board);
+    Closed { board, answer }
+}
+
+pub fn remove_value(b: &mut Board, id: Variable, v: Value) -> Result<bool, Refusal>
+    ensures { closed b.new result ≡ close_of remove b.old id v }
+{
+    in_place(b, |c| board_close::remove_value(c, id, v))
 }
 
 pub fn remove_value_here(b: Board, id: Variable, v: Value) -> Closed
     ensures { result ≡ close_of remove b id v }
 {
-    let mut c = b;
-    let a = remove_value(&mut c, id, v);
-    Closed {
-        board: c,
-        answer: a,
-    }
+    lent(b, |c| remove_value(c, id, v))
 }
 
-pub fn assign_variable(b: &mut Board, id: Variable, v: Value) -> Told
+pub fn assign_variable(b: &mut Board, id: Variable, v: Value) -> Result<bool, Refusal>
     ensures { closed b.new result ≡ close_of assign b.old id v }
 {
-    let r = board_close::assign_variable(*b, id, v);
-    *b = r.board;
-    r.answer
+    in_place(b, |c| board_close::assign_variable(c, id, v))
 }
 
 pub fn assign_variable_here(b: Board, id: Variable, v: Value) -> Closed
     ensures { result ≡ close_of assign b id v }
 {
-    let mut c = b;
-    let a = assign_variable(&mut c, id, v);
-    Closed {
-        board: c,
-        answer: a,
-    }
+    lent(b, |c| assign_variable(c, id, v))
 }
 
-pub fn remove_below(b: &mut Board, id: Variable, v: Value) -> Told
+pub fn remove_below(b: &mut Board, id: Variable, v: Value) -> Result<bool, Refusal>
     ensures { closed b.new result ≡ close_of below b.old id v }
 {
-    let r = board_close::remove_below(*b, id, v);
-    *b = r.board;
-    r.answer
+    in_place(b, |c| board_close::remove_below(c, id, v))
 }
 
 pub fn remove_below_here(b: Board, id: Variable, v: Value) -> Closed
     ensures { result ≡ close_of below b id v }
 {
-    let mut c = b;
-    let a = remove_below(&mut c, id, v);
-    Closed {
-        board: c,
-        answer: a,
-    }
+    lent(b, |c| remove_below(c, id, v))
 }
 
-pub fn remove_above(b: &mut Board, id: Variable, v: Value) -> Told
+pub fn remove_above(b: &mut Board, id: Variable, v: Value) -> Result<bool, Refusal>
     ensures { closed b.new result ≡ close_of above b.old id v }
 {
-    let r = board_close::remove_above(*b, id, v);
-    *b = r.board;
-    r.answer
+    in_place(b, |c| board_close::remove_above(c, id, v))
 }
 
 pub fn remove_above_here(b: Board, id: Variable, v: Value) -> Closed
     ensures { result ≡ close_of above b id v }
 {
-    let mut c = b;
-    let a = remove_above(&mut c, id, v);
-    Closed {
-        board: c,
-        answer: a,
-    }
+    lent(b, |c| remove_above(c, id, v))
 }

@@ -1,5 +1,6 @@
 -- A list's ids place by place: the cells written so far, the rows used so far, and the verdict that is still open.
 use Rattle.std.specs.Prelude.{◌≡◌, refl, Bool, true, false, ◌||◌, List, [], ◌∷◌, ◌++◌, map, ℕ, suc, ◌+◌, ◌^◌, ◌<◌, ◌≤◌, eqb, length, get_or, set, take}
+use Rattle.std.specs.declared.result.Result.TheVariants.{Ok, Err}
 use Rattle.std.specs.Int.Bits.{bit_or}
 use Rattle.std.proofs.Common.{sym, ap, ◌∙◌, inl, inr, ⊎_elim, arith, take-suc, length-take-le, eqb-true, eq-eqb, ne_eqb, le-leb}
 use Rattle.std.proofs.lemmas.List.{map-append, length-map}
@@ -12,7 +13,6 @@ use Rattle.rules.specs.Board as rules
 use Rattle.rules.specs.declared.Refusal.TheVariants.{Unknown, Repeated, TooLong}
 use Rattle.rules.proofs.Tests.{or-false}
 use Rattle.rules.proofs.Loops.{scan_at, scan-unknown, scan-repeated, scan-next, scan-end}
-use Rattle.domain.specs.declared.Outcome.TheVariants as outcome
 use Rattle.board.specs.Rows.{seat_in}
 use Rattle.board.specs.View.{rows_from}
 use Rattle.board.proofs.Seats.{seated, unseated, seat-agree}
@@ -74,7 +74,7 @@ module _ (id : ℕ → ℕ) (n : ℕ) where
   pub open-start : (is at : List ℕ) (u : ℕ) → u ≡ 0 → Open is at at u 0
   open-start is at u z = record { most = omega arith; cells = refl; used = used-none u z; rest = refl }
 
-  pub too_long : (is at : List ℕ) → 64 < length is → placed (outcome.Refused TooLong) at ≡ places_of id n is at
+  pub too_long : (is at : List ℕ) → 64 < length is → placed (Err TooLong) at ≡ places_of id n is at
   unfolding places_of
   too_long is at h = rw (lt-leb (length is) 64 h)
 
@@ -87,9 +87,9 @@ module _ (id : ℕ → ℕ) (n : ℕ) where
 
     module _ (l : p < length is) where
       -- the id at this place isn't registered
-      pub unknown-here : n ≤ 64 → 64 ≤ seat (get_or is p 0) → placed (outcome.Refused (Unknown p)) at ≡ places_of id n is at₀
+      pub unknown-here : n ≤ 64 → 64 ≤ seat (get_or is p 0) → placed (Err (Unknown p)) at ≡ places_of id n is at₀
       unknown-here few h =
-          ap (placed (outcome.Refused (Unknown p))) o.cells
+          ap (placed (Err (Unknown p))) o.cells
           ∙ sym (ended (rules.refused (Unknown p)) (scan-unknown rows is p l (known-none id n (λ i. []) (get_or is p 0) (unseated id n (get_or is p 0) few h))))
 
       module _ (k : seat (get_or is p 0) < 64) where
@@ -97,9 +97,9 @@ module _ (id : ℕ → ℕ) (n : ℕ) where
         here = let s = seated id n (get_or is p 0) k in known_at id n (λ i. []) (get_or is p 0) (seat (get_or is p 0)) s.0 s.1
 
         -- it stood earlier
-        pub repeated-here : eqb (bit u (seat (get_or is p 0))) 1 ≡ true → placed (outcome.Refused (Repeated p)) at ≡ places_of id n is at₀
+        pub repeated-here : eqb (bit u (seat (get_or is p 0))) 1 ≡ true → placed (Err (Repeated p)) at ≡ places_of id n is at₀
         repeated-here e =
-            ap (placed (outcome.Refused (Repeated p))) o.cells
+            ap (placed (Err (Repeated p))) o.cells
             ∙ sym (ended (rules.refused (Repeated p)) (scan-repeated rows is p l here (sym (o.used (get_or is p 0) k) ∙ e)))
 
         -- it is taken
@@ -117,9 +117,9 @@ module _ (id : ℕ → ℕ) (n : ℕ) where
             written : map (seat_in id n) (take p is) ++ (seat (get_or is p 0) ∷ []) ≡ map (seat_in id n) (take (suc p) is)
             written = sym (ap (map (seat_in id n)) (take-suc is p 0 l) ∙ map-append (seat_in id n) (take p is) (get_or is p 0 ∷ []))
 
-    pub all_here : p ≡ length is → placed outcome.Done at ≡ places_of id n is at₀
+    pub all_here : p ≡ length is → placed (Ok tt) at ≡ places_of id n is at₀
     all_here e =
-        ap (placed outcome.Done) (o.cells ∙ ap (λ (k : ℕ). sets at₀ 0 (map (seat_in id n) (take k is))) e)
+        ap (placed (Ok tt)) (o.cells ∙ ap (λ (k : ℕ). sets at₀ 0 (map (seat_in id n) (take k is))) e)
         ∙ sym (ended rules.accepted (ap (scan_at rows is) e ∙ scan-end rows is))
 
 -- the same ids have the same places

@@ -10,7 +10,6 @@ ghost use Rattle.board.specs.Well.{differ};
 ghost use Rattle.board_list.specs.Places.{Begins, placed, places_of};
 
 use board::Row;
-use domain::Outcome;
 use rules::Refusal;
 
 // Where an id stands among the first `count`, tried one by one.
@@ -18,9 +17,7 @@ pub fn find(ids: &[u32; 64], count: usize, id: u32) -> usize
     requires { count ≤ 64 }
     ensures { result ≡ seat_in (λ j. get_or ids.now j 0) count id }
 {
-    let mut i = count;
-    while 0 < i {
-        i -= 1;
+    for i in (0..count).rev() {
         if ids[i] == id {
             return i;
         }
@@ -33,41 +30,36 @@ pub fn find_from(ids: &[u32; 64], count: usize, next: usize, id: u32) -> usize
     requires { (count ≤ 64) × (differ (λ j. get_or ids.now j 0) count ≡ true) }
     ensures { result ≡ seat_in (λ j. get_or ids.now j 0) count id }
 {
-    if next < count {
-        if ids[next] == id {
-            return next;
-        }
+    if next < count && ids[next] == id {
+        return next;
     }
     find(ids, count, id)
 }
 
 // The rows of a list's ids, up to the first id that is unknown or stood earlier: ids that differ stand in different rows, so
 // an id stood earlier exactly if its row is used. Lists mostly go in the order of the rows.
-fn places(ids: &[u32; 64], count: usize, list: &[u32], at: &mut [usize; 64]) -> Outcome
+fn places(ids: &[u32; 64], count: usize, list: &[u32], at: &mut [usize; 64]) -> Result<(), Refusal>
     requires { (count ≤ 64) × (differ (λ j. get_or ids.now j 0) count ≡ true) }
     ensures { placed result at.new ≡ places_of (λ j. get_or ids.now j 0) count list.now at.old }
 {
-    let n = list.len();
-    if 64 < n {
-        return Outcome::Refused(Refusal::TooLong);
+    if 64 < list.len() {
+        return Err(Refusal::TooLong);
     }
     let mut used = mask::empty();
     let mut next = 0;
-    let mut p = 0;
-    while p < n {
-        let row = find_from(ids, count, next, list[p]);
+    for (p, id) in list.iter().enumerate() {
+        let row = find_from(ids, count, next, *id);
         if row == board::NOWHERE {
-            return Outcome::Refused(Refusal::Unknown(p));
+            return Err(Refusal::Unknown(p));
         }
         if mask::has(used, row) {
-            return Outcome::Refused(Refusal::Repeated(p));
+            return Err(Refusal::Repeated(p));
         }
         used = mask::with(used, row);
         at[p] = row;
         next = row + 1;
-        p += 1;
     }
-    Outcome::Done
+    Ok(())
 }
 
 // The ids of the first `count` rows, to be lent: rows can't be.
@@ -76,17 +68,19 @@ pub fn ids_of(rows: [Row; 64], count: usize) -> [u32; 64]
     ensures { Begins (id_at rows) count result }
 {
     let mut ids = [0u32; 64];
-    let mut i = 0;
-    while i < count {
-        let row = rows[i];
-        ids[i] = row.id.0;
-        i += 1;
+    for i in 0..count {
+        ids[i] = rows[i].id.0;
     }
     ids
 }
 
 // As `places`, by the rows of a board.
-pub fn seats(rows: [Row; 64], count: usize, list: &[u32], at: &mut [usize; 64]) -> Outcome
+pub fn seats(
+    rows: [Row; 64],
+    count: usize,
+    list: &[u32],
+    at: &mut [usize; 64],
+) -> Result<(), Refusal>
     requires { (count ≤ 64) × (differ (id_at rows) count ≡ true) }
     ensures { placed result at.new ≡ places_of (id_at rows) count list.now at.old }
 {

@@ -5,7 +5,6 @@
 // It has no `requires`: it is safe on whatever it is lent.
 #![tactic(auto)]
 
-pub mod calls;
 pub mod changes;
 pub mod run;
 

@@ -1,82 +1,50 @@
-// The calls that leave a board as it is, by their numbers in a script.
-ghost use Rattle.std.specs.Prelude.{◌<◌};
-
-use super::{ids as parts, raw, reply as answers};
-use board::Board;
+// The calls that leave a board as it is.
+use super::call::Call;
+use super::raw::id;
+use super::reply as ids;
+use super::run::Run;
 use board_ask::IdCursor;
-use domain::Told;
 use probe_parts::record::Record;
-use probe_parts::regs::Register;
+use probe_parts::regs::CURSORS;
+use probe_parts::reply;
 use probe_parts::reply::Reply;
-use probe_parts::turn::Turn;
-use probe_parts::{regs, reply, turn};
-use rules::Variable;
+use probe_parts::turn::{made, stepped};
 
-fn told(op: u64, b: Board, id: Variable) -> Told {
-    match op {
-        29 => board_close::domains_changed(b),
-        33 => board_ask::is_assigned(b, id),
-        _ => board_ask::is_inconsistent(b, id),
-    }
-}
-
-// What is left of a cursor: 37 and 38 walk the chutes of a destination, the others the ids.
-fn walk(r: Record, b: Board, old: Register) -> Turn {
-    let op = r.op;
-    match op {
-        37 => turn::begun(board_ask::get_domain_values(b, raw::id(r)), old),
-        38 => turn::stepped(domain_values::next(regs::cursor(old))),
-        40 => answers::walk(board_ask::variables(b), old),
-        43 => answers::stood(r.n),
-        _ => answers::walked(board_ask::next_variable(
-            b,
-            IdCursor {
-                at: old.lo as usize,
-            },
-        )),
-    }
-}
-
-// The cursor over ids is the first register.
-fn place(r: Record) -> usize
-    requires { r.b < 8 }
-    ensures { result < 24 }
-{
-    if r.op < 40 {
-        return regs::CURSORS + r.b;
-    }
-    0
-}
-
-fn walked(r: Record, b: Board, regs: &mut [u64; 256]) -> Reply
-    requires { r.b < 8 }
-{
-    let i = place(r);
-    let t = walk(r, b, regs::get(regs, i));
-    regs::put(regs, i, t.left);
+// The calls on cursor b, over the chutes of a destination.
+pub fn on_chutes(call: Call, r: Record, run: &mut Run) -> Reply {
+    let place = CURSORS + r.b;
+    let old = run.regs.get(place);
+    let t = match call {
+        Call::GetDomainValues => made(board_ask::get_domain_values(run.board, id(r)), old),
+        _ => stepped(domain_values::next(old.into())),
+    };
+    run.regs.put(place, t.left);
     t.reply
 }
 
-fn ready(r: Record, b: Board, ids: &[u32]) -> Reply {
-    let span = parts::part(r);
-    let start = span.start;
-    let end = span.end;
-    if ids.len() < end {
-        return reply::none();
-    }
-    reply::told(board_ask::ready(b, &ids[start..end]))
+// The calls on the cursor over ids, which is register 0.
+pub fn on_ids(call: Call, r: Record, run: &mut Run) -> Reply {
+    let old = run.regs.get(0);
+    let at = old.lo as usize;
+    let t = match call {
+        Call::Variables => ids::begun(board_ask::variables(run.board), old),
+        Call::NextVariable => ids::walked(board_ask::next_variable(run.board, IdCursor { at })),
+        _ => ids::stood(r.n),
+    };
+    run.regs.put(0, t.left);
+    t.reply
 }
 
-pub fn run(r: Record, b: Board, regs: &mut [u64; 256], ids: &[u32]) -> Reply
-    requires { r.b < 8 }
-{
-    let op = r.op;
-    match op {
-        29 | 33 | 35 => reply::told(told(op, b, raw::id(r))),
-        32 => reply::counted(board_ask::domain_size(b, raw::id(r))),
-        34 => reply::found(board_ask::assigned_value(b, raw::id(r))),
-        36 => answers::bounds(board_ask::get_bounds(b, raw::id(r))),
-        44 => ready(r, b, ids),
-        _ => walked(r, b, regs),
+pub fn ask(call: Call, r: Record, run: &Run) -> Reply {
+    let b = run.board;
+    match call {
+        Call::DomainsChanged => board_close::domains_changed(b).into(),
+        Call::DomainSize => board_ask::domain_size(b, id(r)).into(),
+        Call::IsAssigned => board_ask::is_assigned(b, id(r)).into(),
+        Call::AssignedValue => board_ask::assigned_value(b, id(r)).into(),
+        Call::IsInconsistent => board_ask::is_inconsistent(b, id(r)).into(),
+        Call::GetBounds => board_ask::get_bounds(b, id(r)).into(),
+        Call::Ready => board_ask::ready(b, run.list(r)).into(),
+        _ => reply::none(),
     }
 }

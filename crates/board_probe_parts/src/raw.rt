@@ -1,6 +1,5 @@
 // Parts of a board set by hand, which makes boards that aren't well formed too.
-ghost use Rattle.std.specs.Prelude.{◌<◌};
-
+use super::call::Call;
 use board::{Board, Row};
 use domain::BitDomain;
 use mask::Mask;
@@ -23,43 +22,24 @@ fn row(r: Record) -> Row {
     }
 }
 
-fn with_row(b: Board, r: Record) -> Board
-    requires { (r.a < 8) × (r.b < 8) }
-{
-    let mut next = b;
-    next.rows[8 * r.a + r.b] = row(r);
-    next
-}
-
-fn with_word(b: Board, r: Record) -> Board {
-    let mut next = b;
-    next.saved[r.n % 1024] = r.lo;
-    next
-}
-
 // A row, a saved word, the count, the marks, or the flag.
-pub fn set(r: Record, b: Board) -> Board
-    requires { (r.a < 8) × (r.b < 8) }
-{
-    let op = r.op;
-    let mut next = b;
-    match op {
-        3 => {
-            next = with_row(b, r);
+pub fn set(call: Call, r: Record, b: &mut Board) {
+    match call {
+        Call::SetRow => {
+            b.rows[8 * r.a + r.b] = row(r);
         }
-        4 => {
-            next = with_word(b, r);
+        Call::SetWord => {
+            b.saved[r.n % 1024] = r.lo;
         }
-        5 => {
-            next.count = r.n;
+        Call::SetCount => {
+            b.count = r.n;
         }
-        6 => {
-            next.marks = r.n;
+        Call::SetMarks => {
+            b.marks = r.n;
         }
-        7 => {
-            next.changed = r.n % 2 == 1;
+        Call::SetFlag => {
+            b.changed = r.n % 2 == 1;
         }
         _ => {}
     }
-    next
 }

@@ -16,10 +16,10 @@ use Rattle.board.specs.Rows.{domain_at}
 use Rattle.board.specs.declared.Row.{Row}
 use Rattle.board_spread.specs.Gather.{Gathered, Ends32}
 
-module _ (rows : List Row) (at : List ℕ) (mins : List ℤ) (ms : List ℕ) where
+module _ (rows : List Row) (at : List ℕ) (mins : List ℤ) (ms : List Mask) where
   module _ (p : ℕ) (l : p < 64) where
     -- the domain at place p is put there
-    pub gathered-more : p < length mins → Room ms → (z : ℤ) → z ≡ (domain_at rows (get_or at p 0)).min → Gathered rows at mins ms p → (ns : List ℕ) → ns ≡ put_at ms p (domain_at rows (get_or at p 0)).mask → Gathered rows at (set mins p z) ns (p + 1)
+    pub gathered-more : p < length mins → Room ms → (z : ℤ) → z ≡ (domain_at rows (get_or at p 0)).min → Gathered rows at mins ms p → (ns : List Mask) → ns ≡ put_at ms p (domain_at rows (get_or at p 0)).mask → Gathered rows at (set mins p z) ns (p + 1)
     gathered-more h r z e g ns q =
         rw q
         (below_more (λ k. (get_or (set mins p z) k (pos 0) ≡ (domain_at rows (get_or at k 0)).min) × (mask_at (put_at ms p m) k ≡ (domain_at rows (get_or at k 0)).mask)) p

@@ -31,7 +31,7 @@ masked-holding d m n e f =
 
 -- ---- place by place, from the last
 
-module _ (rows : List Row) (at ms : List ℕ) where
+module _ (rows : List Row) (at : List ℕ) (ms : List Mask) where
   -- one place more
   pub hold-more : (n p : ℕ) → p < n → (left : List Row) → left ≡ hold_from rows at ms (suc p) (n - suc p) → (m : Mask) → m ≡ mask_at ms p → Fit m → with_domain left (get_or at p 0) (masked (domain_at left (get_or at p 0)) m) ≡ hold_from rows at ms p (n - p)
   hold-more n p l left e m q f =
@@ -103,7 +103,7 @@ module _ (rows : List Row) where
   run-placed f p zero h = tt
   run-placed f p (suc k) h = (h p (omega arith) (omega arith), run-placed f (suc p) k (λ j l m. h j (omega arith) (omega arith)))
 
-  module _ (at ms : List ℕ) where
+  module _ (at : List ℕ) (ms : List Mask) where
     abbrev place : ℕ → ℕ
     place q = get_or at q 0
 

@@ -1,5 +1,7 @@
 -- The ways through a propagation: a board that isn't well formed, a list that is refused, and the pass over the listed domains.
-use Rattle.std.specs.Prelude.{◌≡◌, refl, Bool, true, false, ◌||◌, List, [], map, ℕ, ◌<◌, ◌≤◌, ℤ, length, get_or}
+use Rattle.std.specs.Prelude.{◌≡◌, refl, true, false, List, [], map, ℕ, ◌<◌, ◌≤◌, ℤ, length, get_or, Result}
+use Rattle.mask.specs.declared.Mask.{Mask}
+use Rattle.std.specs.declared.result.Result.TheVariants.{Ok, Err}
 use Rattle.std.proofs.Common.{sym, ap, ◌∙◌, subst, arith}
 use Rattle.std.proofs.lemmas.List.{length-map}
 use lib.Seq.{ext_get_or}
@@ -10,28 +12,23 @@ use Rattle.rules.specs.declared.Refusal.{Refusal}
 use Rattle.rules.specs.declared.Refusal.TheVariants.{Broken}
 use Rattle.rules.proofs.Tests.{or-false}
 use Rattle.domain.specs.Set.{values_of, well}
-use Rattle.domain.specs.declared.Outcome.{Outcome}
-use Rattle.domain.specs.declared.Outcome.TheVariants as outcome
 use Rattle.masks.specs.Cells.{mask_at}
 use Rattle.sweep.specs.Listed.{listed}
 use Rattle.sweep.proofs.Turns.{listed-length, listed_at}
 use Rattle.alldiff.specs.Gather.{told}
 use Rattle.alldiff.specs.declared.Passed.{Passed}
 use Rattle.board.specs.Rows.{id_at, domain_at, seat, with_rows}
-use Rattle.board.specs.Well.{well_board, look_of}
+use Rattle.board.specs.Well.{well_board, checked_of}
 use Rattle.board.specs.View.{held_at, view}
 use Rattle.board.specs.declared.Board.{Board}
 use Rattle.board.specs.declared.Row.{Row}
 use Rattle.board.proofs.ViewLaws.{sound, domain-well}
 use Rattle.board.proofs.WellLaws.{says-well}
-use Rattle.board.proofs.LookLaws.{looked-broken, looked-well}
+use Rattle.board.proofs.LookLaws.{checked-broken, checked-well}
 use Rattle.board_list.specs.Places.{answer_of, placed, places_of}
 use Rattle.board_list.proofs.Theorems.{map_at, verdict-view, seats-view, seats-at, listed-few, listed-seat, listed_below}
 use Rattle.board_spread.specs.Gather.{Gathered, hold_from}
-use Rattle.board_spread.specs.Spread.{hold_all, pruned_at, pruned_by, pruned_of, sound_rows, handed, refused, spread_of}
-use Rattle.board_spread.specs.declared.Pair.{Pair}
-use Rattle.board_spread.specs.declared.Pruned.{Pruned}
-use Rattle.board_spread.specs.declared.Pair.TheVariants as pair
+use Rattle.board_spread.specs.Spread.{Pruned, pruned, hold_all, pruned_at, pruned_by, pruned_of, sound_rows, handed, handed_back, refused, spread_of}
 use Rattle.board_spread.proofs.Holds.{hold-all}
 
 -- ---- the definition, case by case
@@ -45,7 +42,7 @@ module _ (b : Board) (is : List ℕ) where
   unfolding spread_of
   spread-well w = rw w
 
-  pub pruned-refused : (r : Refusal) → rules.listing is (view b).now ≡ rules.refused r → pruned_of b.rows b.count is ≡ record { rows = b.rows; raised = false; answer = pair.Refused r }
+  pub pruned-refused : (r : Refusal) → rules.listing is (view b).now ≡ rules.refused r → pruned_of b.rows b.count is ≡ record { rows = b.rows; raised = false; answer = Err r }
   unfolding pruned_of
   pruned-refused r e = ap (λ (v : rules.Verdict). pruned_by v b.rows (map (seat b) is)) (verdict-view b is [] ∙ e)
 
@@ -74,22 +71,22 @@ rows-sound b w =
 
 -- ---- what `prune` makes of the answer of `seats`
 
-module _ (b : Board) (w : well_board b ≡ true) (is at₀ at : List ℕ) (long : length at₀ ≡ 64) (o : Outcome) (e : placed o at ≡ places_of (id_at b.rows) b.count is at₀) where
+module _ (b : Board) (w : well_board b ≡ true) (is at₀ at : List ℕ) (long : length at₀ ≡ 64) (o : Result Unit Refusal) (e : placed o at ≡ places_of (id_at b.rows) b.count is at₀) where
   verdict : answer_of (rules.listing is (view b).now) ≡ o
   verdict = sym (ap (λ r. r.answer) (e ∙ seats-view b is at₀))
 
-  pub list-refused : (r : Refusal) → o ≡ outcome.Refused r → record { rows = b.rows; raised = false; answer = pair.Refused r } ≡ pruned_of b.rows b.count is
+  pub list-refused : (r : Refusal) → o ≡ Err r → record { rows = b.rows; raised = false; answer = Err r } ≡ pruned_of b.rows b.count is
   list-refused r q = sym (pruned-refused b is r (go (rules.listing is (view b).now) (verdict ∙ q)))
     where
-      go : (v : rules.Verdict) → answer_of v ≡ outcome.Refused r → v ≡ rules.refused r
+      go : (v : rules.Verdict) → answer_of v ≡ Err r → v ≡ rules.refused r
       go rules.accepted f = cc
       go (rules.refused s) f = cc
 
-  module _ (q : o ≡ outcome.Done) where
+  module _ (q : o ≡ Ok tt) where
     taken : rules.listing is (view b).now ≡ rules.accepted
     taken = go (rules.listing is (view b).now) (verdict ∙ q)
       where
-        go : (v : rules.Verdict) → answer_of v ≡ outcome.Done → v ≡ rules.accepted
+        go : (v : rules.Verdict) → answer_of v ≡ Ok tt → v ≡ rules.accepted
         go rules.accepted f = refl
         go (rules.refused s) f = cc
 
@@ -118,7 +115,7 @@ module _ (b : Board) (w : well_board b ≡ true) (is at₀ at : List ℕ) (long 
     place_at : (j : ℕ) → j < length is → get_or ps j 0 ≡ get_or at j 0
     place_at j l = map_at (seat b) is j 0 0 l ∙ sym (cell j l)
 
-    module _ (mins : List ℤ) (ms : List ℕ) (g : Gathered b.rows at mins ms (length is)) where
+    module _ (mins : List ℤ) (ms : List Mask) (g : Gathered b.rows at mins ms (length is)) where
       -- what is gathered is what the listed rows hold
       all_listed : listed mins ms (length is) ≡ ds
       all_listed =
@@ -131,7 +128,7 @@ module _ (b : Board) (w : well_board b ≡ true) (is at₀ at : List ℕ) (long 
           ∙ sym (map_at (held_at b.rows) ps j 0 [] (omega (arith, seats-length))))
 
       -- and when the masks that the pass leaves are put back, that is the call
-      module _ (whole : length b.rows ≡ 64) (after : List ℕ) (r : Passed) (f : told r (listed mins after (length is)) ≡ pass (listed mins ms (length is))) (h : r.raised ≡ raises (listed mins ms (length is))) where
+      module _ (whole : length b.rows ≡ 64) (after : List Mask) (r : Passed) (f : told r (listed mins after (length is)) ≡ pass (listed mins ms (length is))) (h : r.raised ≡ raises (listed mins ms (length is))) where
         passed : told r (listed mins after (length is)) ≡ pass ds
         passed = f ∙ ap pass all_listed
 
@@ -142,18 +139,20 @@ module _ (b : Board) (w : well_board b ≡ true) (is at₀ at : List ℕ) (long 
             (λ j l. let k = cell_below j l in omega arith)
             ∙ ap (λ (s : Swept). hold_all b.rows ps s.domains) passed
 
-        pub list-taken : (rows : List Row) → rows ≡ hold_from b.rows at after 0 (length is) → record { rows = rows; raised = r.raised; answer = pair.Is r.changed r.consistent } ≡ pruned_of b.rows b.count is
+        pub list-taken : (rows : List Row) → rows ≡ hold_from b.rows at after 0 (length is) → record { rows = rows; raised = r.raised; answer = Ok r.answer } ≡ pruned_of b.rows b.count is
         list-taken rows k =
-            (λ i. record { rows = (k ∙ put_back) i; raised = (h ∙ ap raises all_listed) i; answer = pair.Is (passed i).changed (passed i).consistent })
+            (λ i. record { rows = (k ∙ put_back) i; raised = (h ∙ ap raises all_listed) i; answer = Ok (record { changed = (passed i).changed; consistent = (passed i).consistent }) })
             ∙ sym (pruned-accepted b is taken)
 
--- ---- what the code makes of `look`'s answer p, and of the rows, the flag and the answer that it has then
+-- ---- by what `check` answered
 
-module _ (b : Board) (is : List ℕ) (p : ℕ) (e : p ≡ look_of b.rows b.count b.saved b.marks 0) (rows : List Row) (y : Bool) (a : Pair) where
-  pub spread-known : (p ≡ 65 → ⊥) → (r : Pruned) → r ≡ pruned_of b.rows b.count is → rows ≡ r.rows → y ≡ r.raised → a ≡ r.answer → record { board = with_rows b rows (b.changed || y); answer = a } ≡ spread_of b is
-  spread-known fine r q f g h =
-      (λ i. record { board = with_rows b (f i) (b.changed || g i); answer = h i }) ∙ ap (handed b) q ∙ sym (spread-well b is (looked-well b 0 p e fine))
+module _ (b : Board) (is : List ℕ) where
+  pub spread-unchecked : (r : Refusal) → Err r ≡ checked_of b → handed_back b (Err r) ≡ spread_of b is
+  spread-unchecked r e = let s = checked-broken b r e in rw s.1 (sym (spread-broken b is s.0))
 
-  pub spread-unknown : p ≡ 65 → rows ≡ b.rows → y ≡ false → a ≡ pair.Refused Broken → record { board = with_rows b rows (b.changed || y); answer = a } ≡ spread_of b is
-  spread-unknown q f g h =
-      (λ i. record { board = with_rows b (f i) ((ap (λ (x : Bool). b.changed || x) g ∙ or-false b.changed) i); answer = h i }) ∙ sym (spread-broken b is (looked-broken b 0 p e q))
+  pub spread-checked : Ok tt ≡ checked_of b → (r : Pruned) → r ≡ pruned_of b.rows b.count is → handed b r ≡ spread_of b is
+  spread-checked e r q = ap (handed b) q ∙ sym (spread-well b is (checked-well b e))
+
+  -- a list that is refused leaves the flag
+  pub spread-unlisted : Ok tt ≡ checked_of b → (rows : List Row) (r : Refusal) → pruned rows (Err r) ≡ pruned_of b.rows b.count is → handed_back (with_rows b rows b.changed) (Err r) ≡ spread_of b is
+  spread-unlisted e rows r q = (λ i. handed_back (with_rows b rows (sym (or-false b.changed) i)) (Err r)) ∙ spread-checked e _ q

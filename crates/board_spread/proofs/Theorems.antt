@@ -1,5 +1,6 @@
 -- A propagation does as the rules say, on every well-formed board; one that isn't comes back as it came.
 use Rattle.std.specs.Prelude.{◌≡◌, refl, Bool, true, false, not, ◌||◌, List, [], ◌∷◌, map, ℕ, suc, ◌<◌, T, length, get_or}
+use Rattle.std.specs.declared.result.Result.TheVariants.{Ok}
 use Rattle.std.proofs.Common.{sym, ap, ◌∙◌, subst, ⊎_elim, arith}
 use Rattle.offset.specs.Places.{span_of}
 use Rattle.rules.specs.Sets.{Chutes, has, Every, Ascending, Within, Different}
@@ -24,9 +25,7 @@ use Rattle.board.specs.declared.Board.{Board}
 use Rattle.board.specs.declared.Row.{Row}
 use Rattle.board.proofs.ViewLaws.{domain-well, seat-below, seat-id, view-domain, view-put, put-well, alike_same}
 use Rattle.board_list.proofs.Theorems.{listed-seat}
-use Rattle.board_spread.specs.Spread.{hold_all, pruned_at, pruned_of, sound_rows, handed, refused, spread_of, pair_of}
-use Rattle.board_spread.specs.declared.Pair.TheVariants as pair
-use Rattle.board_spread.specs.declared.Pruned.{Pruned}
+use Rattle.board_spread.specs.Spread.{Pruned, hold_all, pruned_at, pruned_of, sound_rows, handed, refused, spread_of, pair_of}
 use Rattle.board_spread.specs.declared.Spread.{Spread}
 use Rattle.board_spread.proofs.Holds.{hold-length, hold-id, hold-universe, hold-other, Placed}
 use Rattle.board_spread.proofs.Spreading.{bare, pruned-refused, pruned-accepted, spread-broken, spread-refused, spread-accepted}
@@ -174,7 +173,7 @@ module _ (b : Board) (is : List ℕ) (whole : Whole b) (w : well_board b ≡ tru
       go (rules.refused r) e = subst Spreads (sym (spread-refused b is w r e)) (spreads-refused r e)
 
   -- an answer of not consistent refutes: no way that the board allows gives each listed destination its own chute
-  pub inconsistent-refutes : (y : Bool) → (spread_of b is).answer ≡ pair.Is y false → (way : Way) → Different (map way is) → Allowed (view b).now way → ⊥
+  pub inconsistent-refutes : (y : Bool) → (spread_of b is).answer ≡ Ok (record { changed = y; consistent = false }) → (way : Way) → Different (map way is) → Allowed (view b).now way → ⊥
   inconsistent-refutes y e = spread-refutes (view b) is y (sym spread-obeys.answers ∙ ap pair_of e)
 
 -- ---- ways

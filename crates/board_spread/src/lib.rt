@@ -8,58 +8,33 @@
 #![tactic(auto)]
 
 ghost use Rattle.std.specs.Prelude.{◌≡◌};
-ghost use Rattle.board_spread.specs.Spread.{spread_of};
+ghost use Rattle.board_spread.specs.Spread.{handed_back, spread_of};
 
-use board::{Board, Row};
-use rules::{Refusal, Variable};
+use board::Board;
+use rules::{Pair, Refusal};
 
 pub mod inner;
-
-// 01's pair, (changed, consistent), or why the call was refused. After a stop in step 2 `changed` tells of step 1 only.
-#[derive(Clone, Copy)]
-pub enum Pair {
-    Is(bool, bool),
-    Refused(Refusal),
-}
 
 // A board handed back, and the pair.
 #[derive(Clone, Copy)]
 pub struct Spread {
     pub board: Board,
-    pub answer: Pair,
+    pub answer: Result<Pair, Refusal>,
 }
 
-// Rows as a list leaves them, whether it raises the board's flag, and the pair.
-#[derive(Clone, Copy)]
-pub struct Pruned {
-    pub rows: [Row; 64],
-    pub raised: bool,
-    pub answer: Pair,
+// What the destinations of a list hold, narrowed on a board that is checked once.
+fn narrow(b: &mut Board, list: &[u32]) -> Result<Pair, Refusal>
+    ensures { handed_back b.new result ≡ spread_of b.old list.now }
+{
+    board::check(b)?;
+    let did = inner::prune(&mut b.rows, b.count, list)?;
+    b.changed = b.changed | did.raised;
+    Ok(did.answer)
 }
 
-pub fn propagate_alldiff(b: Board, list: &[u32]) -> Spread
+pub fn propagate_alldiff(mut b: Board, list: &[u32]) -> Spread
     ensures { result ≡ spread_of b list.now }
 {
-    let mut rows = b.rows;
-    let count = b.count;
-    let saved = b.saved;
-    let marks = b.marks;
-    let mut raised = false;
-    let mut answer = Pair::Refused(Refusal::Broken);
-    if board::look(rows, count, &saved, marks, Variable(0)) != board::BROKEN {
-        let did = inner::prune(rows, count, list);
-        rows = did.rows;
-        raised = did.raised;
-        answer = did.answer;
-    }
-    Spread {
-        board: Board {
-            rows,
-            count,
-            saved,
-            marks,
-            changed: b.changed | raised,
-        },
-        answer,
-    }
+    let answer = narrow(&mut b, list);
+    Spread { board: b, answer }
 }

@@ -1,5 +1,6 @@
 -- What the domains of the bit cases hold, by laws: 128 bits are too many to walk. The questions go by that.
 use Rattle.std.specs.Prelude.{◌≡◌, refl, true, pos, length}
+use Rattle.std.specs.declared.result.Result.TheVariants.{Ok}
 use Rattle.std.proofs.Common.{ap, ◌∙◌}
 use Rattle.mask.specs.Val.{val, mask_of}
 use Rattle.mask.specs.Sets.{members_from, members_in}
@@ -10,12 +11,11 @@ use Rattle.rules.specs.Cases.{from}
 use Rattle.domain.specs.Set.{set_of, values_of, well, bits_of}
 use Rattle.domain.specs.Calls.{invalid, new_of, between_of, only_of, at, size_of, fixed_value_of, min_universe_of, max_universe_of}
 use Rattle.domain.specs.declared.BitDomain.{BitDomain}
-use Rattle.domain.specs.declared.Counted.TheVariants as counted
 use Rattle.domain.proofs.Theorems.{new-well, new-set, close-well, close-set}
 use Rattle.cases.specs.Worked.{num, bits, upper, middle}
 
 module _ (d : BitDomain) (s : Chutes) (w : well d ≡ true) (e : set_of d ≡ s) where
-  pub size_is : size_of d ≡ counted.Count (length s)
+  pub size_is : size_of d ≡ Ok (length s)
   unfolding size_of
   size_is = rw (w, e)
 
@@ -48,6 +48,6 @@ pub wide : bits 0 128 ≡ invalid
 unfolding new_of between_of span_of
 wide = refl
 
-pub none_told : (min_universe_of invalid ≡ at (pos 1)) × (max_universe_of invalid ≡ at (pos 0)) × (size_of invalid ≡ counted.Count 0)
+pub none_told : (min_universe_of invalid ≡ at (pos 1)) × (max_universe_of invalid ≡ at (pos 0)) × (size_of invalid ≡ Ok 0)
 unfolding span_of min_universe_of max_universe_of size_of well values_of bits_of val mask_of members_from members_in
 none_told = (refl, refl, refl)

@@ -1,6 +1,7 @@
 -- What 01 says of some calls in a sentence, as laws: ends given the other way round, a universe that is too wide or none, whether membership changed,
 -- and what is left where a value isn't held.
 use Rattle.std.specs.Prelude.{◌≡◌, refl, Bool, true, false, not, ◌&&◌, ◌||◌, cond, List, [], ◌∷◌, ℕ, ◌^◌, ◌<◌, T, ℤ, pos, negsuc, length}
+use Rattle.std.specs.declared.result.Result.TheVariants.{Ok}
 use Rattle.std.specs.Int.Signed.{lt_z}
 use Rattle.std.proofs.Common.{sym, ap, ◌∙◌, subst, arith, le-leb}
 use Rattle.std.proofs.lemmas.Bool.{lt-leb}
@@ -16,13 +17,11 @@ use Rattle.domain.specs.Set.{set_of, universe, well}
 use Rattle.domain.specs.Calls as bit
 use Rattle.domain.specs.Calls.{invalid, new_of, insert_of, remove_of, close_of}
 use Rattle.domain.specs.declared.BitDomain.{BitDomain}
-use Rattle.domain.specs.declared.Told.TheVariants as told
 use Rattle.domain.proofs.Theorems.{set-within, insert-set, remove-set, close-set}
 use Rattle.domain_values.specs.Calls.{from_values_of}
 use Rattle.sparse_make.specs.Calls as make
 use Rattle.order.specs.Order.{counted}
 use Rattle.sparse_make.specs.Calls.{room_for, between_of, new_unchecked_of}
-use Rattle.sparse_make.specs.declared.Made.TheVariants as made
 
 all-of-i32 : span_of (negsuc 2147483647) (pos 2147483647) ≡ 2 ^ 32
 unfolding span_of
@@ -63,11 +62,11 @@ from_nothing = (refl, refl)
 abbrev pub turned : Bool → Bool → Bool
 turned before after = cond before (not after) after
 
-remove-tells : (d : BitDomain) → well d ≡ true → (v : Value) → (remove_of d v).answer ≡ told.Is (has v.0 (set_of d))
+remove-tells : (d : BitDomain) → well d ≡ true → (v : Value) → (remove_of d v).answer ≡ Ok (has v.0 (set_of d))
 unfolding remove_of
 remove-tells d w v = rw w
 
-insert-tells : (d : BitDomain) → well d ≡ true → (v : Value) → (insert_of d v).answer ≡ told.Is (has v.0 (universe d) && not (has v.0 (set_of d)))
+insert-tells : (d : BitDomain) → well d ≡ true → (v : Value) → (insert_of d v).answer ≡ Ok (has v.0 (universe d) && not (has v.0 (set_of d)))
 unfolding insert_of
 insert-tells d w v = rw w
 
@@ -94,18 +93,18 @@ module _ (d : BitDomain) (w : well d ≡ true) (v : Value) where
       ∙ and-true (has v.0 (universe d))
 
   -- "`insert` and `remove` answer whether membership changed"
-  pub remove-turns : (remove_of d v).answer ≡ told.Is (turned (held d) (held (remove_of d v).domain))
-  remove-turns = remove-tells d w v ∙ ap told.Is (off (held d)) ∙ ap (λ (t : Bool). told.Is (turned (held d) t)) (sym removed)
+  pub remove-turns : (remove_of d v).answer ≡ Ok (turned (held d) (held (remove_of d v).domain))
+  remove-turns = remove-tells d w v ∙ ap Ok (off (held d)) ∙ ap (λ (t : Bool). Ok (turned (held d) t)) (sym removed)
     where
       off : (x : Bool) → x ≡ turned x false
       off true = refl
       off false = refl
 
-  pub insert-turns : (insert_of d v).answer ≡ told.Is (turned (held d) (held (insert_of d v).domain))
+  pub insert-turns : (insert_of d v).answer ≡ Ok (turned (held d) (held (insert_of d v).domain))
   insert-turns =
       insert-tells d w v
-      ∙ ap told.Is (on (held d) (has v.0 (universe d)) (set-within d w v.0))
-      ∙ ap (λ (t : Bool). told.Is (turned (held d) t)) (sym inserted)
+      ∙ ap Ok (on (held d) (has v.0 (universe d)) (set-within d w v.0))
+      ∙ ap (λ (t : Bool). Ok (turned (held d) t)) (sym inserted)
     where
       on : (x u : Bool) → (T x → T u) → u && not x ≡ turned x u
       on true true h = refl
@@ -126,6 +125,6 @@ module _ (d : BitDomain) (w : well d ≡ true) (v : Value) where
 -- ---- sparse sets
 
 -- "`new_unchecked` with reversed ends gives a universe of none at its first argument"
-pub unchecked-none : (a b : Value) (ind val : List ℕ) → lt_z b.0 a.0 ≡ true → new_unchecked_of a b ind val ≡ make.making (made.Set (make.whole a.0 0)) ind val
+pub unchecked-none : (a b : Value) (ind val : List ℕ) → lt_z b.0 a.0 ≡ true → new_unchecked_of a b ind val ≡ make.making (Ok (make.whole a.0 0)) ind val
 unfolding new_unchecked_of between_of room_for counted
 unchecked-none a b ind val h = rw ((span-zero a.0 b.0).1 h, le-leb 0 (length ind) (omega arith), le-leb 0 (length val) (omega arith))

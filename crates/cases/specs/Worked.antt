@@ -1,25 +1,19 @@
 -- "Worked on paper": the eleven cases of 01 as one table, each in 01's words and then as the calls' definitions have it, and beside them the one that
 -- they leave out, an id that becomes assigned as step 1 runs. The cases of the pass are played on the real board; their numbers stand in rules, Cases.
-use Rattle.std.specs.Prelude.{◌≡◌, true, List, [], ◌∷◌, ℕ, pos, length, replicate}
+use Rattle.std.specs.Prelude.{◌≡◌, true, List, [], ◌∷◌, ℕ, pos, length, replicate, Result}
+use Rattle.std.specs.declared.result.Result.TheVariants.{Ok, Err}
+use Rattle.rules.specs.declared.Refusal.{Refusal}
+use Rattle.sparse_inner.specs.declared.Sparse.{Sparse}
 use Rattle.rules.specs.Sets.{ascending}
 use Rattle.rules.specs.Board.{below, above}
 use Rattle.rules.specs.Cases.{from, seven, eight, nine, ten, eleven, unjoined}
 use Rattle.rules.specs.declared.Value.{Value}
 use Rattle.domain.specs.Calls as bit
 use Rattle.domain.specs.declared.BitDomain.{BitDomain}
-use Rattle.domain.specs.declared.Counted.TheVariants as counted
 use Rattle.sparse_inner.specs.Set.{Full, full, set_of}
 use Rattle.sparse_inner.specs.declared.SparseState.{SparseState}
 use Rattle.sparse_make.specs.Calls as make
-use Rattle.sparse_make.specs.declared.Made.{Made}
-use Rattle.sparse_make.specs.declared.Made.TheVariants as made
 use Rattle.sparse.specs.Calls as sparse
-use Rattle.sparse.specs.declared.Counted.TheVariants as size
-use Rattle.sparse.specs.declared.Found.TheVariants as found
-use Rattle.sparse.specs.declared.Kept.{Kept}
-use Rattle.sparse.specs.declared.Kept.TheVariants as kept
-use Rattle.sparse.specs.declared.Outcome.{Outcome}
-use Rattle.sparse.specs.declared.Outcome.TheVariants as outcome
 use Rattle.sparse_text.specs.Text.{written, write_text_of}
 use Rattle.cases.specs.Played.{Plays}
 
@@ -44,20 +38,20 @@ abbrev pub cells : List ℕ
 cells = replicate 6 9
 
 -- what a call made, or nothing over no cells where it refused
-abbrev pub set_by : Made → List ℕ → List ℕ → Full
-set_by (made.Set s) ind val = full s ind val
-set_by (made.Refused r) ind val = full (make.whole (pos 0) 0) [] []
+abbrev pub set_by : Result Sparse Refusal → List ℕ → List ℕ → Full
+set_by (Ok s) ind val = full s ind val
+set_by (Err r) ind val = full (make.whole (pos 0) 0) [] []
 
 abbrev pub set_on : make.Making → Full
 set_on m = set_by m.answer m.ind m.val
 
-abbrev pub state_by : Kept → SparseState
-state_by (kept.State t) = t
-state_by (kept.Refused r) = record { size = 0; min = 0; max = 0 }
+abbrev pub state_by : Result SparseState Refusal → SparseState
+state_by (Ok t) = t
+state_by (Err r) = record { size = 0; min = 0; max = 0 }
 
 -- the text call, lent as many bytes as the text has, writes it
 abbrev pub Shows : Full → List ℕ → Type 0
-Shows f text = write_text_of f (replicate (length text) 0) ≡ written (size.Count (length text)) text
+Shows f text = write_text_of f (replicate (length text) 0) ≡ written (Ok (length text)) text
 
 -- from 1, 3, 6
 abbrev pub few : Full
@@ -75,24 +69,24 @@ abbrev pub only : Full → ℕ → Full
 only f v = (sparse.remove_all_but_of f (num v)).left
 
 -- 0..5 saved, then without 5 and 0, then restored
-abbrev pub again : sparse.After Outcome
+abbrev pub again : sparse.After (Result Unit Refusal)
 again = sparse.restore_of (less (less (up_to 5) 5) 0) (state_by (sparse.save_of (up_to 5)))
 
 -- ---- the table
 
 pub record Worked : Type 0 where
   -- 1. Bit 0..127: size 128
-  pub case-1 : bit.size_of (bits 0 127) ≡ counted.Count 128
+  pub case-1 : bit.size_of (bits 0 127) ≡ Ok 128
   -- 2. Bit 0..128: (1, 0), size 0
-  pub case-2 : (bit.min_universe_of (bits 0 128) ≡ bit.at (pos 1)) × (bit.max_universe_of (bits 0 128) ≡ bit.at (pos 0)) × (bit.size_of (bits 0 128) ≡ counted.Count 0)
+  pub case-2 : (bit.min_universe_of (bits 0 128) ≡ bit.at (pos 1)) × (bit.max_universe_of (bits 0 128) ≡ bit.at (pos 0)) × (bit.size_of (bits 0 128) ≡ Ok 0)
   -- 3. Bit 0..127, below 64: size 64; then above 64: fixed at 64
-  pub case-3 : (bit.size_of upper ≡ counted.Count 64) × (bit.fixed_value_of middle ≡ bit.at (pos 64))
+  pub case-3 : (bit.size_of upper ≡ Ok 64) × (bit.fixed_value_of middle ≡ bit.at (pos 64))
   -- 4. Sparse from 1, 3, 6: `[1,6,3|5,4,2]`
   pub case-4 : Shows few (91 ∷ 49 ∷ 44 ∷ 54 ∷ 44 ∷ 51 ∷ 124 ∷ 53 ∷ 44 ∷ 52 ∷ 44 ∷ 50 ∷ 93 ∷ [])
   -- 5. Sparse 0..3, remove 3: `[0,1,2|3]`; then all but 1: `[1|0,2,3]`
   pub case-5 : Shows (less (up_to 3) 3) (91 ∷ 48 ∷ 44 ∷ 49 ∷ 44 ∷ 50 ∷ 124 ∷ 51 ∷ 93 ∷ []) × Shows (only (less (up_to 3) 3) 1) (91 ∷ 49 ∷ 124 ∷ 48 ∷ 44 ∷ 50 ∷ 44 ∷ 51 ∷ 93 ∷ [])
   -- 6. Sparse 0..5, save, remove 5 and 0, restore: 0..5 with bounds 0 and 5
-  pub case-6 : (again.answer ≡ outcome.Done) × (ascending (set_of again.left) ≡ from 6 0) × (sparse.min_of again.left ≡ found.At (num 0)) × (sparse.max_of again.left ≡ found.At (num 5))
+  pub case-6 : (again.answer ≡ Ok tt) × (ascending (set_of again.left) ≡ from 6 0) × (sparse.min_of again.left ≡ Ok (num 0)) × (sparse.max_of again.left ≡ Ok (num 5))
   -- 7. Two ids fixed at 5: (true, false), second empty
   pub case-7 : Plays seven
   -- 8. Domains 1..2, 1..2, 1..4: third becomes 3, 4; (true, true)

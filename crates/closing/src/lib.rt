@@ -25,16 +25,14 @@ pub struct Closing {
 }
 
 // The kind that a sheet, or a batch in numbers, names by n: 1 to 4, which its caller has seen to. Any other number is taken for 4.
+#[tactic(auto, unfolding(crate::specs::Kinds::kind_for))]
 pub fn kind_for(n: u32) -> Kind
     ensures { result ≡ kind_for n }
 {
-    if n == 1 {
-        Kind::Remove
-    } else if n == 2 {
-        Kind::Assign
-    } else if n == 3 {
-        Kind::Below
-    } else {
-        Kind::Above
+    match n {
+        1 => Kind::Remove,
+        2 => Kind::Assign,
+        3 => Kind::Below,
+        _ => Kind::Above,
     }
 }

@@ -1,5 +1,5 @@
 -- Decimal digits, one at a time, and how many there are. Assumes nothing.
-use Rattle.std.specs.Prelude.{ℕ, zero, suc, ◌+◌, ◌*◌, ◌/◌, ◌%◌, ◌^◌, ◌≤◌, ◌<◌, ◌≡◌, refl, List, [], ◌∷◌, ◌++◌, ℤ, pos, negsuc, nat_abs, length}
+use Rattle.std.specs.Prelude.{ℕ, zero, suc, ◌+◌, ◌*◌, ◌/◌, ◌%◌, ◌^◌, ◌≤◌, ◌<◌, ◌≡◌, refl, max, List, [], ◌∷◌, ◌++◌, ℤ, pos, negsuc, nat_abs, length}
 use Rattle.std.proofs.Common.{ap, sym, ◌∙◌, subst, arith, pow-suc, length-append}
 use Rattle.std.proofs.Math.Decide.{le_ind}
 use Rattle.decimal.specs.Decimal.{last_digit, digits, natural, decimal}
@@ -64,6 +64,23 @@ natural-few k n h =
 pub natural-some : (n : ℕ) → 1 ≤ length (natural n)
 unfolding natural
 natural-some n = omega (arith, length-append (digits n (n / 10)) (last_digit n))
+
+ten-pos : (k : ℕ) → 0 < 10 ^ k
+ten-pos zero = omega arith
+ten-pos (suc k) = omega (arith, pow-suc 10 k, ten-pos k)
+
+natural-least : (k n : ℕ) → 10 ^ k ≤ n → suc k ≤ length (natural n)
+natural-least zero n h = natural-some n
+natural-least (suc k) n h =
+    let p : 10 ^ k * 10 ≤ n = subst (λ (x : ℕ). x ≤ n) (pow-suc 10 k) h in
+    let one = ten-pos k in
+    omega (arith, size_step n (omega arith), natural-least k (n / 10) (omega arith))
+
+-- as many as the powers of ten say between which n lies; 0 has as many as 1
+pub natural-size : (k n : ℕ) → 10 ^ k ≤ max n 1 → max n 1 < 10 * 10 ^ k → length (natural n) ≡ k + 1
+natural-size zero zero h l = ap length (natural-small 0 (omega arith))
+natural-size (suc k) zero h l = absurd (omega (arith, pow-suc 10 k, ten-pos k))
+natural-size k (suc n) h l = omega (arith, natural-few k (suc n) (omega (arith, pow-suc 10 k)), natural-least k (suc n) (omega arith))
 
 pub decimal-few : (k : ℕ) (z : ℤ) → nat_abs z < 10 ^ suc k → length (decimal z) ≤ suc (suc k)
 unfolding decimal

@@ -1,36 +1,19 @@
 -- A signed number and its magnitude. What the machine reads of a signed number is made of its bits: `read`. Assumes nothing.
-use Rattle.std.specs.Prelude.{ℕ, suc, ◌+◌, ◌-◌, ◌^◌, ◌≤◌, ◌<◌, ◌≡◌, refl, true, false, ◌∷◌, T, ℤ, pos, negsuc, nat_abs, ◌-ℤ◌}
-use Rattle.std.specs.Int.Signed.{lt_z, non_neg}
+use Rattle.std.specs.Prelude.{ℕ, ◌^◌, ◌<◌, ◌≡◌, refl, true, false, ◌∷◌, ℤ, pos, negsuc, nat_abs}
+use Rattle.std.specs.Int.Signed.{lt_z}
 use Rattle.std.specs.Int.{w64}
-use Rattle.std.proofs.Common.{ap, sym, ◌∙◌, true≢false, arith, SFits, Fits, to_z, of_z, le-ltb, ltb-true}
+use Rattle.std.proofs.Common.{ap, sym, ◌∙◌, true≢false, arith, SFits, to_z, of_z, ltb-true}
 use Rattle.std.proofs.lemmas.Int.{to_z-of_z}
-use mathlib.Core.Path.{subst⁻¹}
 use Rattle.decimal.specs.Decimal.{natural, decimal}
 
 abbrev pub read : ℤ → ℤ
 read x = to_z w64 (of_z w64 x)
-
-flip : (n : ℕ) → negsuc 0 -ℤ negsuc n ≡ pos n
-flip n =
-    let h : 1 ≤ suc n = omega arith in
-    let e : suc n - 1 ≡ n = omega arith in
-    rw (le-ltb (suc n) 1 h, e)
-
-pub flip-neg : (x : ℤ) → SFits w64 x → lt_z (read x) (pos 0) ≡ true → (n : ℕ) × (n < 2 ^ 63) × (negsuc 0 -ℤ read x ≡ pos n) × (nat_abs x ≡ n + 1)
-flip-neg (pos n) f e =
-    let l : n < 0 = ltb-true n 0 (ap (λ (z : ℤ). lt_z z (pos 0)) (sym (to_z-of_z w64 (pos n) f)) ∙ e) in
-    absurd (omega arith)
-flip-neg (negsuc n) f e = (n, f.sfits, ap (λ (z : ℤ). negsuc 0 -ℤ z) (to_z-of_z w64 (negsuc n) f) ∙ flip n, omega arith)
 
 pub keep-pos : (x : ℤ) → SFits w64 x → lt_z (read x) (pos 0) ≡ false → (n : ℕ) × (n < 2 ^ 63) × (read x ≡ pos n) × (x ≡ pos n)
 keep-pos (pos n) f e = (n, f.sfits, to_z-of_z w64 (pos n) f, refl)
 keep-pos (negsuc n) f e =
     let z : true ≡ false = ap (λ (z : ℤ). lt_z z (pos 0)) (sym (to_z-of_z w64 (negsuc n) f)) ∙ e in
     absurd (true≢false z)
-
--- a number that is not negative is cast to an unsigned one
-pub nat-cast : (z : ℤ) (n : ℕ) → n < 2 ^ 63 → z ≡ pos n → T (non_neg z) × Fits w64 (nat_abs z)
-nat-cast z n h e = subst⁻¹ (λ (y : ℤ). T (non_neg y) × Fits w64 (nat_abs y)) e (tt, record { fits = omega arith })
 
 -- ---- the text, by the sign
 

@@ -5,7 +5,7 @@
 // The bytes must have room: a caller asks for the size first.
 #![tactic(auto)]
 
-ghost use Rattle.std.specs.Prelude.{◌≡◌, ◌+◌, ◌≤◌, nat_abs, length};
+ghost use Rattle.std.specs.Prelude.{◌≡◌, ◌+◌, ◌≤◌, length};
 ghost use Rattle.decimal.specs.Decimal.{natural, decimal};
 ghost use Rattle.decimal.specs.Put.{put_of};
 
@@ -13,13 +13,7 @@ ghost use Rattle.decimal.specs.Put.{put_of};
 pub fn size_natural(n: u64) -> usize
     ensures { result ≡ length (natural n) }
 {
-    let mut left = n;
-    let mut digits: usize = 1;
-    while 10 <= left {
-        left = left / 10;
-        digits += 1;
-    }
-    digits
+    n.max(1).ilog10() as usize + 1
 }
 
 // Puts n at `at`, and answers the place after it.
@@ -37,22 +31,12 @@ pub fn put_natural(n: u64, out: &mut [u8], at: usize) -> usize
     }
 }
 
-// Without its sign: the least i64 has a magnitude that no i64 holds.
-fn magnitude(x: i64) -> u64
-    ensures { result ≡ nat_abs x }
-{
-    if x < 0 { (-1 - x) as u64 + 1 } else { x as u64 }
-}
-
 // How many bytes.
 pub fn size(x: i64) -> usize
     ensures { result ≡ length (decimal x) }
 {
-    if x < 0 {
-        1 + size_natural(magnitude(x))
-    } else {
-        size_natural(magnitude(x))
-    }
+    let digits = size_natural(x.unsigned_abs());
+    if x < 0 { digits + 1 } else { digits }
 }
 
 // Puts x at `at`, and answers the place after it.
@@ -62,8 +46,8 @@ pub fn put(x: i64, out: &mut [u8], at: usize) -> usize
 {
     if x < 0 {
         out[at] = b'-';
-        put_natural(magnitude(x), out, at + 1)
+        put_natural(x.unsigned_abs(), out, at + 1)
     } else {
-        put_natural(magnitude(x), out, at)
+        put_natural(x.unsigned_abs(), out, at)
     }
 }

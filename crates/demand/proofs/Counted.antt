@@ -1,6 +1,7 @@
 -- Which work counts in a trial: a refused call adds nothing to the work in force (`refused-uncounted`), and an inner mark, whatever is done while it
 -- is open, and its restore add nothing either (`undone-uncounted`). Without these a list too many in the work would only make demand 3 say less.
-use Rattle.std.specs.Prelude.{◌≡◌, refl, Bool, true, false, ◌||◌, cond, List, [], ◌∷◌, ◌++◌, map, ℕ, suc, ◌+◌, ◌<◌, T, length}
+use Rattle.std.specs.Prelude.{◌≡◌, refl, Bool, true, false, ◌||◌, cond, List, [], ◌∷◌, ◌++◌, map, ℕ, suc, ◌+◌, ◌<◌, T, length, Result}
+use Rattle.std.specs.declared.result.Result.TheVariants.{Ok}
 use Rattle.std.proofs.Common.{sym, ap, ◌∙◌, subst, add-one, arith, length-append}
 use Rattle.std.proofs.lemmas.List.{map-append}
 use Rattle.rules.specs.Sets.{some, Every}
@@ -12,8 +13,6 @@ use Rattle.rules.specs.declared.Refusal.TheVariants.{NoMark}
 use Rattle.rules.proofs.Tests.{is_true}
 use Rattle.rules.proofs.CallLaws.{saved-batch, denied-refused}
 use Rattle.rules.proofs.Trials.{trial-restored}
-use Rattle.domain.specs.declared.Outcome.{Outcome}
-use Rattle.domain.specs.declared.Outcome.TheVariants as outcome
 use Rattle.board.specs.Well.{well_board}
 use Rattle.board.specs.View.{view}
 use Rattle.board.specs.Obeys.{outcome_of, Whole, Obeys}
@@ -233,12 +232,12 @@ done-taken c a e = go (refusal c a) e
 abbrev Within : List Call → Board → Type 0
 Within ks a = T (taken mark a) × Open (length a.saved) ks (act mark a) × (length (run ks (act mark a)).saved ≡ suc (length a.saved))
 
-module _ (b : real.Board) (whole : Whole b) (accepted : (mark_of b).answer ≡ outcome.Done) where
+module _ (b : real.Board) (whole : Whole b) (accepted : (mark_of b).answer ≡ Ok tt) where
   abbrev begun : real.Board
   begun = (mark_of b).board
 
   begins : Obeys rules.mark b begun rules.done
-  begins = subst (λ (o : Outcome). Obeys rules.mark b (mark_of b).board (outcome_of o)) accepted (mark-obeys b whole (accepted-well b accepted).0)
+  begins = subst (λ (o : Result Unit Refusal). Obeys rules.mark b (mark_of b).board (outcome_of o)) accepted (mark-obeys b whole (accepted-well b accepted).0)
 
   is-after : (ms : List Made) → view (runs ms begun) ≡ after (view b) (map call_of ms)
   is-after ms = run-view ms begun begins.whole begins.well ∙ ap (run (map call_of ms)) begins.acts
@@ -258,7 +257,7 @@ module _ (b : real.Board) (whole : Whole b) (accepted : (mark_of b).answer ≡ o
     ap (λ (a : Board). length a.saved) (sym (is-after ms)) ∙ view-marks (runs ms begun) ∙ e ∙ add-one b.marks ∙ ap suc (sym (view-marks b)),
   )
 
-module _ (b : real.Board) (whole : Whole b) (accepted : (mark_of b).answer ≡ outcome.Done) where
+module _ (b : real.Board) (whole : Whole b) (accepted : (mark_of b).answer ≡ Ok tt) where
   abbrev marked : real.Board
   marked = (mark_of b).board
 
@@ -289,7 +288,7 @@ module _ (b : real.Board) (whole : Whole b) (accepted : (mark_of b).answer ≡ o
         ∙ ap (trial (view b)) (sym (map-append call_of ms ns)))
 
     -- nor is what an inner restore undoes: while the trial's mark is open, an accepted mark, the calls ks while it is open, and its restore
-    pub undone-uncounted : (ks ns : List Made) → StaysOpen b (steps ms marked) → (inner : (mark_of then).answer ≡ outcome.Done) → StaysOpen then (steps ks (mark_of then).board) → (runs ks (mark_of then).board).marks ≡ then.marks + 1 → work_since b (steps (ms ++ (script.mark ∷ (ks ++ (script.restore ∷ ns)))) marked) ≡ work_since b (steps (ms ++ ns) marked)
+    pub undone-uncounted : (ks ns : List Made) → StaysOpen b (steps ms marked) → (inner : (mark_of then).answer ≡ Ok tt) → StaysOpen then (steps ks (mark_of then).board) → (runs ks (mark_of then).board).marks ≡ then.marks + 1 → work_since b (steps (ms ++ (script.mark ∷ (ks ++ (script.restore ∷ ns)))) marked) ≡ work_since b (steps (ms ++ ns) marked)
     undone-uncounted ks ns h inner still newest =
         let w = subst (Within (map call_of ks)) (is-after b whole accepted ms) (is_within then full inner ks still newest) in
         by-calls (ms ++ (script.mark ∷ (ks ++ (script.restore ∷ ns)))) (ms ++ ns)

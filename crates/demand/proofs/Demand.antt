@@ -1,14 +1,14 @@
 -- Demand 3, word for word, about the board's public calls: any well-formed board, any accepted mark on it, and any sequence of calls from then on.
 -- Each call does as the rules say (`made-obeys`), so that a run of them is a chain, and what holds of every chain holds of it. No call brings a board
 -- from well formed to not (`call-well`), and none changes the ids, their order or their universes while a mark is open (`call-alike`).
-use Rattle.std.specs.Prelude.{◌≡◌, refl, Bool, true, false, List, [], ◌∷◌, map, ℕ, ◌+◌, ◌<◌}
+use Rattle.std.specs.Prelude.{◌≡◌, refl, Bool, true, false, List, [], ◌∷◌, map, ℕ, ◌+◌, ◌<◌, Result}
+use Rattle.std.specs.declared.result.Result.TheVariants.{Ok}
 use Rattle.std.proofs.Common.{sym, ap, ◌∙◌, subst}
 use Rattle.rules.specs.Sets.{Every, Different}
 use Rattle.rules.specs.Board as rules
 use Rattle.rules.specs.Trial.{Way, Differs, Permits}
 use Rattle.rules.proofs.CallLaws.{asking-nothing, ready-nothing}
 use Rattle.domain.specs.Calls.{new_of}
-use Rattle.domain.specs.declared.Outcome.TheVariants as outcome
 use Rattle.domain_values.specs.Calls.{from_values_of}
 use Rattle.board.specs.Well.{well_board}
 use Rattle.board.specs.View.{view}
@@ -26,8 +26,8 @@ use Rattle.batch.proofs.Worded.{batch-worded}
 use Rattle.board_enter.proofs.Theorems.{add-obeys, add-any-obeys, enter-refuses}
 use Rattle.board_enter.proofs.Worded.{add-worded, add-any-worded}
 use Rattle.board_spread.specs.declared.Spread.{Spread}
-use Rattle.board_spread.specs.declared.Pair.{Pair}
-use Rattle.board_spread.specs.declared.Pair.TheVariants as pair
+use Rattle.rules.specs.declared.Pair.{Pair}
+use Rattle.rules.specs.declared.Refusal.{Refusal}
 use Rattle.board_spread.specs.Spread.{spread_of, pair_of}
 use Rattle.board_spread.proofs.Theorems.{spread-obeys, spread-refuses}
 use Rattle.board_spread.proofs.Worded.{spread-worded}
@@ -166,7 +166,7 @@ run-worded (m ∷ ms) b h = run-worded ms (board_of m b) (made-worded m b h)
 
 -- ---- a trial: an accepted mark on b, and the calls ms from then on, while that mark is open
 
-module _ (b : Board) (whole : Whole b) (accepted : (mark_of b).answer ≡ outcome.Done) (ms : List Made) (still : StaysOpen b (steps ms (mark_of b).board)) where
+module _ (b : Board) (whole : Whole b) (accepted : (mark_of b).answer ≡ Ok tt) (ms : List Made) (still : StaysOpen b (steps ms (mark_of b).board)) where
   abbrev work : List Step
   work = steps ms (mark_of b).board
 
@@ -186,28 +186,28 @@ module _ (b : Board) (whole : Whole b) (accepted : (mark_of b).answer ≡ outcom
   trial-alike = subst (Alike b) (run-final ms (mark_of b).board) (trials.trial-alike b whole accepted work chain still)
 
   -- where the mark is the newest, restoring it gives back every domain, bit for bit, and the older marks
-  pub trial-restored : (runs ms (mark_of b).board).marks ≡ b.marks + 1 → Worded b → ((restore_of (runs ms (mark_of b).board)).answer ≡ outcome.Done) × Same b (restore_of (runs ms (mark_of b).board)).board
+  pub trial-restored : (runs ms (mark_of b).board).marks ≡ b.marks + 1 → Worded b → ((restore_of (runs ms (mark_of b).board)).answer ≡ Ok tt) × Same b (restore_of (runs ms (mark_of b).board)).board
   trial-restored n h =
-      subst (λ (c : Board). c.marks ≡ b.marks + 1 → Worded c → ((restore_of c).answer ≡ outcome.Done) × Same b (restore_of c).board) (run-final ms (mark_of b).board)
+      subst (λ (c : Board). c.marks ≡ b.marks + 1 → Worded c → ((restore_of c).answer ≡ Ok tt) × Same b (restore_of c).board) (run-final ms (mark_of b).board)
       (λ e y. trials.trial-restored b whole accepted work chain still e h y)
       n (run-worded ms (mark_of b).board (mark-worded b h))
 
   -- and keeping it leaves every domain, and the older marks
-  pub trial-kept : (runs ms (mark_of b).board).marks ≡ b.marks + 1 → Worded b → ((keep_of (runs ms (mark_of b).board)).answer ≡ outcome.Done) × ((keep_of (runs ms (mark_of b).board)).board.rows ≡ (runs ms (mark_of b).board).rows) × SameMarks b (keep_of (runs ms (mark_of b).board)).board
+  pub trial-kept : (runs ms (mark_of b).board).marks ≡ b.marks + 1 → Worded b → ((keep_of (runs ms (mark_of b).board)).answer ≡ Ok tt) × ((keep_of (runs ms (mark_of b).board)).board.rows ≡ (runs ms (mark_of b).board).rows) × SameMarks b (keep_of (runs ms (mark_of b).board)).board
   trial-kept n h =
-      subst (λ (c : Board). c.marks ≡ b.marks + 1 → Worded c → ((keep_of c).answer ≡ outcome.Done) × ((keep_of c).board.rows ≡ c.rows) × SameMarks b (keep_of c).board) (run-final ms (mark_of b).board)
+      subst (λ (c : Board). c.marks ≡ b.marks + 1 → Worded c → ((keep_of c).answer ≡ Ok tt) × ((keep_of c).board.rows ≡ c.rows) × SameMarks b (keep_of c).board) (run-final ms (mark_of b).board)
       (λ e y. trials.trial-kept b whole accepted work chain still e h y)
       n (run-worded ms (mark_of b).board (mark-worded b h))
 
   -- an inconsistent answer of a propagation now: no way that the domains at the mark allow and the closings in force permit has different chutes on
   -- its list and on every list in force
-  pub trial-refutes : (is : List ℕ) (y : Bool) → (spread_of (runs ms (mark_of b).board) is).answer ≡ pair.Is y false → (w : Way) → Different (map w is) → Every (Differs w) (work_since b work) → Allows b w → Every (Permits w) (work_since b work) → ⊥
+  pub trial-refutes : (is : List ℕ) (y : Bool) → (spread_of (runs ms (mark_of b).board) is).answer ≡ Ok (record { changed = y; consistent = false }) → (w : Way) → Different (map w is) → Every (Differs w) (work_since b work) → Allows b w → Every (Permits w) (work_since b work) → ⊥
   trial-refutes is y e =
       let o = mark-obeys b whole (trials.accepted-well b accepted).0 in
       let c = runs ms (mark_of b).board in
       let f = run-final ms (mark_of b).board in
       let full = run-whole ms (mark_of b).board o.whole o.well in
       let fine = run-well ms (mark_of b).board o.whole o.well in
-      let ob = subst (λ (a : Pair). Obeys (rules.spread is) c (spread_of c is).board (pair_of a)) e (spread-obeys c is full fine) in
+      let ob = subst (λ (a : Result Pair Refusal). Obeys (rules.spread is) c (spread_of c is).board (pair_of a)) e (spread-obeys c is full fine) in
       trials.trial-refutes b whole accepted work chain still is y (spread_of c is).board
       (subst (λ (d : Board). Obeys (rules.spread is) d (spread_of c is).board (rules.outcome y false)) (sym f) ob)

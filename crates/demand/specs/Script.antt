@@ -1,6 +1,9 @@
 -- The board's public calls as a program makes them, and a run of them, each on the board as the last one handed it back.
 -- A call is added by a constructor and a line in each of the three definitions that follow it, and its theorem in proofs/Demand.antt.
-use Rattle.std.specs.Prelude.{true, List, [], ◌∷◌, map, ℕ}
+use Rattle.std.specs.Prelude.{true, List, [], ◌∷◌, map, ℕ, Result}
+use Rattle.std.specs.declared.result.Result.TheVariants.{Ok, Err}
+use Rattle.rules.specs.declared.Refusal.{Refusal}
+use Rattle.board_ask.specs.declared.IdCursor.{IdCursor}
 use Rattle.rules.specs.Sets.{Chutes}
 use Rattle.rules.specs.Board as rules
 use Rattle.rules.specs.declared.Value.{Value}
@@ -17,8 +20,6 @@ use Rattle.board_enter.specs.Enter.{enter_of}
 use Rattle.board_spread.specs.Spread.{spread_of, pair_of}
 use Rattle.board_ask.specs.Questions.{domain_size_of, is_assigned_of, assigned_value_of, is_inconsistent_of, get_bounds_of, get_values_of}
 use Rattle.board_ask.specs.Names.{yields, walk_of}
-use Rattle.board_ask.specs.declared.Walk.{Walk}
-use Rattle.board_ask.specs.declared.Walk.TheVariants as walk
 use Rattle.board_ask.specs.Ready.{ready_of}
 use Rattle.board_ask.specs.Answers.{count_of, chute_of, ends_told, held_by}
 use Rattle.trial.specs.Marks.{mark_of, restore_of, keep_of}
@@ -78,9 +79,9 @@ board_of (get_bounds id) b = b
 board_of (get_domain_values id) b = b
 
 -- the ids that a walk from its beginning tells, as many steps as there are destinations
-abbrev pub walked : Board → Walk → rules.Answer
-walked b (walk.Cursor c) = rules.named (yields b b.count c)
-walked b (walk.Refused r) = rules.denied r
+abbrev pub walked : Board → Result IdCursor Refusal → rules.Answer
+walked b (Ok c) = rules.named (yields b b.count c)
+walked b (Err r) = rules.denied r
 
 -- what it answers, in the words of the rules
 abbrev pub answer_of : Made → Board → rules.Answer

@@ -1,5 +1,6 @@
 -- How many values a mask stands for, and which are the first, the last and the only one. Assumes nothing.
 use Rattle.std.specs.Prelude.{◌≡◌, refl, Bool, true, false, not, List, [], ◌∷◌, ◌++◌, map, ℕ, suc, ◌^◌, eqb, length, ℤ, pos, ◌+ℤ◌}
+use Rattle.std.specs.declared.result.Result.TheVariants.{Err}
 use Rattle.std.specs.Int.Count.{ones}
 use Rattle.std.proofs.Common.{sym, ap, ◌∙◌, arith, eqb-true, eq-eqb, ne_eqb}
 use Rattle.std.proofs.lemmas.List.{map-append, length-map}
@@ -10,7 +11,6 @@ use Rattle.mask.specs.Sets.{members, length-members, members-first, members-high
 use Rattle.mask.specs.declared.Mask.{Mask}
 use Rattle.rules.specs.Sets.{Chutes, some}
 use Rattle.rules.specs.declared.Refusal.TheVariants.{Empty}
-use Rattle.domain.specs.declared.Found.TheVariants as found
 use Rattle.domain.specs.Set.{values_of}
 use Rattle.domain.specs.Calls.{at, first_of, last_of, only_of}
 
@@ -26,7 +26,7 @@ only-first [] e = refl
 only-first (x ∷ []) e = refl
 only-first (x ∷ y ∷ s) e = absurd (omega arith)
 
-pub only_none : (s : Chutes) → (length s ≡ 1 → ⊥) → only_of s ≡ found.Refused Empty
+pub only_none : (s : Chutes) → (length s ≡ 1 → ⊥) → only_of s ≡ Err Empty
 only_none [] f = refl
 only_none (x ∷ []) f = absurd (f refl)
 only_none (x ∷ y ∷ s) f = refl

@@ -1,5 +1,6 @@
 -- The definitions, run. Each is by computation alone.
 use Rattle.std.specs.Prelude.{◌≡◌, refl, true, false, [], ◌∷◌, ℤ, pos, negsuc}
+use Rattle.std.specs.declared.result.Result.TheVariants.{Ok, Err}
 use Rattle.mask.specs.Val.{val, mask_of}
 use Rattle.mask.specs.Sets.{members_from, members_in}
 use Rattle.offset.specs.Places.{span_of}
@@ -7,12 +8,7 @@ use Rattle.rules.specs.Board.{assign, below, above}
 use Rattle.rules.specs.declared.Refusal.TheVariants.{Broken, TooWide, Empty}
 use Rattle.rules.specs.declared.Value.{Value}
 use Rattle.domain.specs.declared.BitDomain.{BitDomain}
-use Rattle.domain.specs.declared.Made.TheVariants as made
-use Rattle.domain.specs.declared.Told.TheVariants as told
-use Rattle.domain.specs.declared.Counted.TheVariants as counted
-use Rattle.domain.specs.declared.Found.TheVariants as found
 use Rattle.domain.specs.Set.{set_of, values_of, well, bits_of}
-use Rattle.domain.specs.declared.Outcome.TheVariants as outcome
 use Rattle.domain.specs.Calls.{invalid, new_of, try_new_of, between_of, try_between_of, at, is_invalid_of, contains_of, size_of, is_empty_of, is_fixed_of, min_of, max_of, fixed_value_of, universe_size_of, min_universe_of, max_universe_of, insert_of, remove_of, remove_all_of, close_of}
 
 abbrev v : ℤ → Value
@@ -26,7 +22,7 @@ five-held : set_of five ≡ negsuc 0 ∷ pos 0 ∷ pos 1 ∷ pos 2 ∷ pos 3 ∷
 unfolding five new_of between_of values_of bits_of span_of val mask_of members_from members_in
 five-held = refl
 
-five-size : size_of five ≡ counted.Count 5
+five-size : size_of five ≡ Ok 5
 unfolding five new_of between_of values_of bits_of span_of val mask_of members_from members_in well size_of
 five-size = refl
 
@@ -34,15 +30,15 @@ five-largest : max_of five ≡ at (pos 3)
 unfolding five new_of between_of max_of values_of bits_of span_of val mask_of members_from members_in well
 five-largest = refl
 
-five-contains : contains_of five (v (negsuc 0)) ≡ told.Is true
+five-contains : contains_of five (v (negsuc 0)) ≡ Ok true
 unfolding five new_of between_of contains_of values_of bits_of span_of val mask_of members_from members_in well
 five-contains = refl
 
-five-not-fixed : is_fixed_of five ≡ told.Is false
+five-not-fixed : is_fixed_of five ≡ Ok false
 unfolding five new_of between_of is_fixed_of values_of bits_of span_of val mask_of members_from members_in well
 five-not-fixed = refl
 
-no-one-value : fixed_value_of five ≡ found.Refused Empty
+no-one-value : fixed_value_of five ≡ Err Empty
 unfolding five new_of between_of fixed_value_of values_of bits_of span_of val mask_of members_from members_in well
 no-one-value = refl
 
@@ -50,11 +46,11 @@ no-one-value = refl
 none : BitDomain
 none = new_of false (v (negsuc 0)) (v (pos 3))
 
-none-empty : is_empty_of none ≡ told.Is true
+none-empty : is_empty_of none ≡ Ok true
 unfolding new_of between_of none is_empty_of values_of bits_of span_of val mask_of members_from members_in well
 none-empty = refl
 
-none-universe : universe_size_of none ≡ counted.Count 5
+none-universe : universe_size_of none ≡ Ok 5
 unfolding new_of between_of none universe_size_of bits_of span_of val mask_of well
 none-universe = refl
 
@@ -62,7 +58,7 @@ none_from : min_universe_of none ≡ at (negsuc 0)
 unfolding new_of between_of none min_universe_of bits_of span_of val mask_of well
 none_from = refl
 
-one_in : insert_of none (v (pos 2)) ≡ record { domain = (close_of assign five (v (pos 2))).domain; answer = told.Is true }
+one_in : insert_of none (v (pos 2)) ≡ record { domain = (close_of assign five (v (pos 2))).domain; answer = Ok true }
 unfolding five new_of between_of none insert_of close_of values_of bits_of span_of val mask_of members_from members_in well
 one_in = refl
 
@@ -71,15 +67,15 @@ wide : new_of true (v (pos 0)) (v (pos 128)) ≡ invalid
 unfolding new_of between_of span_of
 wide = refl
 
-wide-refused : try_new_of true (v (pos 0)) (v (pos 128)) ≡ made.Refused TooWide
+wide-refused : try_new_of true (v (pos 0)) (v (pos 128)) ≡ Err TooWide
 unfolding try_new_of try_between_of span_of
 wide-refused = refl
 
-all-of-i32 : try_new_of true (v (negsuc 2147483647)) (v (pos 2147483647)) ≡ made.Refused TooWide
+all-of-i32 : try_new_of true (v (negsuc 2147483647)) (v (pos 2147483647)) ≡ Err TooWide
 unfolding try_new_of try_between_of span_of
 all-of-i32 = refl
 
-wide-invalid : is_invalid_of invalid ≡ told.Is true
+wide-invalid : is_invalid_of invalid ≡ Ok true
 unfolding is_invalid_of bits_of span_of val mask_of well
 wide-invalid = refl
 
@@ -87,7 +83,7 @@ wide-to : max_universe_of invalid ≡ at (pos 0)
 unfolding max_universe_of bits_of span_of val mask_of well
 wide-to = refl
 
-nothing-smallest : min_of invalid ≡ found.Refused Empty
+nothing-smallest : min_of invalid ≡ Err Empty
 unfolding values_of bits_of span_of val mask_of members_from members_in well min_of
 nothing-smallest = refl
 
@@ -96,15 +92,15 @@ dropped : set_of (remove_of five (v (pos 1))).domain ≡ negsuc 0 ∷ pos 0 ∷ 
 unfolding five new_of between_of remove_of values_of bits_of span_of val mask_of members_from members_in well
 dropped = refl
 
-dropped-said : (remove_of five (v (pos 1))).answer ≡ told.Is true
+dropped-said : (remove_of five (v (pos 1))).answer ≡ Ok true
 unfolding five new_of between_of remove_of values_of bits_of span_of val mask_of members_from members_in well
 dropped-said = refl
 
-outside-said : (remove_of five (v (pos 4))).answer ≡ told.Is false
+outside-said : (remove_of five (v (pos 4))).answer ≡ Ok false
 unfolding five new_of between_of remove_of values_of bits_of span_of val mask_of members_from members_in well
 outside-said = refl
 
-again-said : (insert_of five (v (pos 1))).answer ≡ told.Is false
+again-said : (insert_of five (v (pos 1))).answer ≡ Ok false
 unfolding five new_of between_of insert_of values_of bits_of span_of val mask_of members_from members_in well
 again-said = refl
 
@@ -120,15 +116,15 @@ all_but_one : fixed_value_of (close_of assign five (v (pos 1))).domain ≡ at (p
 unfolding five new_of between_of close_of fixed_value_of values_of bits_of span_of val mask_of members_from members_in well
 all_but_one = refl
 
-all-out : remove_all_of five ≡ record { domain = none; answer = outcome.Done }
+all-out : remove_all_of five ≡ record { domain = none; answer = Ok tt }
 unfolding five new_of between_of none remove_all_of values_of bits_of span_of val mask_of members_from members_in well
 all-out = refl
 
 -- a mask bit beyond the universe, and bounds that stand for no universe but aren't one of the two pairs
-beyond : size_of (record { mask = mask_of 4; min = pos 5; max = pos 6 }) ≡ counted.Refused Broken
+beyond : size_of (record { mask = mask_of 4; min = pos 5; max = pos 6 }) ≡ Err Broken
 unfolding size_of values_of span_of val mask_of members_from members_in well
 beyond = refl
 
-no-pair : max_of (record { mask = mask_of 0; min = pos 5; max = pos 4 }) ≡ found.Refused Broken
+no-pair : max_of (record { mask = mask_of 0; min = pos 5; max = pos 4 }) ≡ Err Broken
 unfolding max_of values_of span_of val mask_of members_from members_in well
 no-pair = refl

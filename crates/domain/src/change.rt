@@ -1,97 +1,47 @@
 // The calls that change a domain. One that isn't well formed is refused and handed back as it came.
+#![tactic(auto, unfolding(crate::specs::Calls::insert_of, crate::specs::Calls::remove_of, crate::specs::Calls::remove_all_of, crate::specs::Calls::close_of))]
+
 ghost use Rattle.std.specs.Prelude.{◌≡◌};
 ghost use Rattle.rules.specs.Board.{assign, below, above};
 ghost use Rattle.domain.specs.Calls.{insert_of, remove_of, remove_all_of, close_of};
 
-use super::{BitDomain, Changed, Narrowed, Outcome, Told, inner};
-use rules::{Refusal, Value};
+use super::{BitDomain, Changed, Narrowed, inner};
+use rules::Value;
 
 pub fn insert(d: BitDomain, v: Value) -> Changed
     ensures { result ≡ insert_of d v }
 {
-    if !inner::is_well(d) {
-        return Changed {
-            domain: d,
-            answer: Told::Refused(Refusal::Broken),
-        };
-    }
-    Changed {
-        domain: inner::including(d, v),
-        answer: Told::Is(inner::admits(d, v)),
-    }
+    let done = inner::check(d).map(|()| (inner::including(d, v), inner::admits(d, v)));
+    inner::answered(d, done)
 }
 
 pub fn remove(d: BitDomain, v: Value) -> Changed
     ensures { result ≡ remove_of d v }
 {
-    if !inner::is_well(d) {
-        return Changed {
-            domain: d,
-            answer: Told::Refused(Refusal::Broken),
-        };
-    }
-    Changed {
-        domain: inner::without(d, v),
-        answer: Told::Is(inner::holds(d, v)),
-    }
+    let done = inner::check(d).map(|()| (inner::without(d, v), inner::holds(d, v)));
+    inner::answered(d, done)
 }
 
 pub fn remove_all(d: BitDomain) -> Narrowed
     ensures { result ≡ remove_all_of d }
 {
-    if !inner::is_well(d) {
-        return Narrowed {
-            domain: d,
-            answer: Outcome::Refused(Refusal::Broken),
-        };
-    }
-    Narrowed {
-        domain: inner::emptied(d),
-        answer: Outcome::Done,
-    }
+    inner::narrowed(d, inner::check(d).map(|()| inner::emptied(d)))
 }
 
 pub fn remove_all_but(d: BitDomain, v: Value) -> Narrowed
     ensures { result ≡ close_of assign d v }
 {
-    if !inner::is_well(d) {
-        return Narrowed {
-            domain: d,
-            answer: Outcome::Refused(Refusal::Broken),
-        };
-    }
-    Narrowed {
-        domain: inner::only(d, v),
-        answer: Outcome::Done,
-    }
+    inner::narrowed(d, inner::check(d).map(|()| inner::only(d, v)))
 }
 
 pub fn remove_below(d: BitDomain, v: Value) -> Narrowed
     ensures { result ≡ close_of below d v }
 {
-    if !inner::is_well(d) {
-        return Narrowed {
-            domain: d,
-            answer: Outcome::Refused(Refusal::Broken),
-        };
-    }
-    Narrowed {
-        domain: inner::from(d, v),
-        answer: Outcome::Done,
-    }
+    inner::narrowed(d, inner::check(d).map(|()| inner::from(d, v)))
 }
 
 pub fn remove_above(d: BitDomain, v: Value) -> Narrowed
     ensures { result ≡ close_of above d v }
 {
-    if !inner::is_well(d) {
-        return Narrowed {
-            domain: d,
-            answer: Outcome::Refused(Refusal::Broken),
-        };
-    }
-    Narrowed {
-        domain: inner::upto(d, v),
-        answer: Outcome::Done,
-    }
+    inner::narrowed(d, inner::check(d).map(|()| inner::upto(d, v)))
 }

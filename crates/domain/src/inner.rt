@@ -4,11 +4,11 @@ ghost use Rattle.rules.specs.Sets.{has, keep};
 ghost use Rattle.rules.specs.Board.{leaves, remove, assign, below, above};
 ghost use Rattle.mask.specs.Val.{val};
 ghost use Rattle.domain.specs.Set.{pair, width, universe, place_in, set_of, holding, well};
-ghost use Rattle.domain.specs.Calls.{at, first_of, last_of, including};
+ghost use Rattle.domain.specs.Calls.{checked, answered, narrowed, at, first_of, last_of, including};
 
-use super::BitDomain;
+use super::{Answered, BitDomain, Narrowed};
 use mask::Mask;
-use rules::Value;
+use rules::{Refusal, Value};
 
 // How many values the universe has.
 pub fn width(d: BitDomain) -> usize
@@ -21,13 +21,7 @@ pub fn width(d: BitDomain) -> usize
 fn is_pair(d: BitDomain) -> bool
     ensures { result ≡ pair d.min d.max }
 {
-    if d.min == 1 {
-        return d.max == 0;
-    }
-    if d.min == 0 {
-        return d.max == -1;
-    }
-    false
+    (d.min == 1 && d.max == 0) || (d.min == 0 && d.max == -1)
 }
 
 // Every checked call begins with this, so the usual case comes first: a universe of 1 to 128 values, and a mask that ends by its last.
@@ -35,13 +29,40 @@ pub fn is_well(d: BitDomain) -> bool
     ensures { result ≡ well d }
 {
     let last = offset::gap(d.max, d.min);
-    if mask::ends_by(d.mask, last) {
-        return true;
+    mask::ends_by(d.mask, last) || (last < 0 && is_pair(d) && mask::is_none(d.mask))
+}
+
+// Every checked call begins with this: a domain that isn't well formed is refused.
+pub fn check(d: BitDomain) -> Result<(), Refusal>
+    ensures { result ≡ checked d }
+{
+    if is_well(d) {
+        return Ok(());
     }
-    if 0 <= last {
-        return false;
+    Err(Refusal::Broken)
+}
+
+// A refused call hands the domain back as it came.
+pub fn answered<T>(d: BitDomain, done: Result<(BitDomain, T), Refusal>) -> Answered<T>
+    ensures { result ≡ answered d done }
+{
+    match done {
+        Ok((domain, answer)) => Answered {
+            domain,
+            answer: Ok(answer),
+        },
+        Err(why) => Answered {
+            domain: d,
+            answer: Err(why),
+        },
     }
-    is_pair(d) && mask::is_none(d.mask)
+}
+
+// The same of a call that has nothing else to tell.
+pub fn narrowed(d: BitDomain, done: Result<BitDomain, Refusal>) -> Narrowed
+    ensures { result ≡ narrowed d done }
+{
+    answered(d, done.map(|next| (next, ())))
 }
 
 // Whether the universe has v.
@@ -71,9 +92,7 @@ pub fn value(d: BitDomain, k: usize) -> Value
 pub fn with_mask(d: BitDomain, m: Mask) -> BitDomain
     ensures { (result.mask ≡ m) × (result.min ≡ d.min) × (result.max ≡ d.max) }
 {
-    let mut next = d;
-    next.mask = m;
-    next
+    BitDomain { mask: m, ..d }
 }
 
 // Whether a value is held.
@@ -81,10 +100,7 @@ pub fn holds(d: BitDomain, v: Value) -> bool
     requires { well d ≡ true }
     ensures { result ≡ has v.0 (set_of d) }
 {
-    if spans(d, v) {
-        return mask::has(d.mask, place(d, v));
-    }
-    false
+    spans(d, v) && mask::has(d.mask, place(d, v))
 }
 
 // With the value v, where the universe has it.
@@ -140,10 +156,7 @@ pub fn admits(d: BitDomain, v: Value) -> bool
     requires { well d ≡ true }
     ensures { result ≡ has v.0 (universe d) && not (has v.0 (set_of d)) }
 {
-    if spans(d, v) {
-        return !mask::has(d.mask, place(d, v));
-    }
-    false
+    spans(d, v) && !mask::has(d.mask, place(d, v))
 }
 
 // Nothing held.

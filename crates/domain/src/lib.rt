@@ -32,51 +32,14 @@ pub struct BitDomain {
     pub max: i32,
 }
 
-// What a call that makes a domain answers.
+// A domain handed back, and what the call answers. A refused call hands it back as it came.
 #[derive(Clone, Copy)]
-pub enum Made {
-    Domain(BitDomain),
-    Refused(Refusal),
-}
-
-// Yes or no.
-#[derive(Clone, Copy)]
-pub enum Told {
-    Is(bool),
-    Refused(Refusal),
-}
-
-// How many.
-#[derive(Clone, Copy)]
-pub enum Counted {
-    Count(usize),
-    Refused(Refusal),
-}
-
-// Which chute.
-#[derive(Clone, Copy)]
-pub enum Found {
-    At(Value),
-    Refused(Refusal),
-}
-
-// That it is done.
-#[derive(Clone, Copy)]
-pub enum Outcome {
-    Done,
-    Refused(Refusal),
-}
-
-// A domain handed back, and whether it changed.
-#[derive(Clone, Copy)]
-pub struct Changed {
+pub struct Answered<T> {
     pub domain: BitDomain,
-    pub answer: Told,
+    pub answer: Result<T, Refusal>,
 }
 
-// A domain handed back by a call that has nothing else to tell.
-#[derive(Clone, Copy)]
-pub struct Narrowed {
-    pub domain: BitDomain,
-    pub answer: Outcome,
-}
+// Of a call that answers whether the domain changed, and of one that has nothing else to tell.
+pub type Changed = Answered<bool>;
+
+pub type Narrowed = Answered<()>;

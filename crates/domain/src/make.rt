@@ -1,8 +1,10 @@
 // The calls that make a domain. None is given one, so none refuses it; only the `try_` forms refuse, a universe that is too wide.
-ghost use Rattle.std.specs.Prelude.{◌≡◌, true, false};
-ghost use Rattle.domain.specs.Calls.{invalid, narrow, filled, between_of, try_between_of, new_of, try_new_of};
+#![tactic(auto, unfolding(crate::specs::Calls::new_of, crate::specs::Calls::between_of, crate::specs::Calls::try_between_of, crate::specs::Calls::try_new_of))]
 
-use super::{BitDomain, Made};
+ghost use Rattle.std.specs.Prelude.{◌≡◌, true, false};
+ghost use Rattle.domain.specs.Calls.{invalid, narrow, filled, try_between_of, new_of, try_new_of};
+
+use super::BitDomain;
 use rules::{Refusal, Value};
 
 pub fn new_invalid() -> BitDomain
@@ -46,41 +48,17 @@ fn bare(min: i32, max: i32) -> BitDomain
 }
 
 // A universe from min to max, all held or nothing, where it is narrow enough.
-fn between(all: bool, min: i32, max: i32) -> BitDomain
-    ensures { result ≡ between_of all min max }
-{
-    if !is_narrow(min, max) {
-        return new_invalid();
-    }
-    if all {
-        return full(min, max);
-    }
-    bare(min, max)
-}
-
-fn try_between(all: bool, min: i32, max: i32) -> Made
+fn try_between(all: bool, min: i32, max: i32) -> Result<BitDomain, Refusal>
     ensures { result ≡ try_between_of all min max }
 {
     if !is_narrow(min, max) {
-        return Made::Refused(Refusal::TooWide);
+        return Err(Refusal::TooWide);
     }
-    if all {
-        return Made::Domain(full(min, max));
-    }
-    Made::Domain(bare(min, max))
+    Ok(if all { full(min, max) } else { bare(min, max) })
 }
 
 // The bounds in either order.
-fn new_of(all: bool, a: Value, b: Value) -> BitDomain
-    ensures { result ≡ new_of all a b }
-{
-    if b.0 < a.0 {
-        return between(all, b.0, a.0);
-    }
-    between(all, a.0, b.0)
-}
-
-fn try_new_of(all: bool, a: Value, b: Value) -> Made
+fn try_new_of(all: bool, a: Value, b: Value) -> Result<BitDomain, Refusal>
     ensures { result ≡ try_new_of all a b }
 {
     if b.0 < a.0 {
@@ -92,22 +70,22 @@ fn try_new_of(all: bool, a: Value, b: Value) -> Made
 pub fn new(a: Value, b: Value) -> BitDomain
     ensures { result ≡ new_of true a b }
 {
-    new_of(true, a, b)
+    try_new(a, b).unwrap_or(new_invalid())
 }
 
 pub fn new_empty(a: Value, b: Value) -> BitDomain
     ensures { result ≡ new_of false a b }
 {
-    new_of(false, a, b)
+    try_new_empty(a, b).unwrap_or(new_invalid())
 }
 
-pub fn try_new(a: Value, b: Value) -> Made
+pub fn try_new(a: Value, b: Value) -> Result<BitDomain, Refusal>
     ensures { result ≡ try_new_of true a b }
 {
     try_new_of(true, a, b)
 }
 
-pub fn try_new_empty(a: Value, b: Value) -> Made
+pub fn try_new_empty(a: Value, b: Value) -> Result<BitDomain, Refusal>
     ensures { result ≡ try_new_of false a b }
 {
     try_new_of(false, a, b)

@@ -1,12 +1,15 @@
 -- What stands behind a reference at the end, and the answer, as the call by value hands them back.
+use Rattle.std.specs.Prelude.{Result, Bool}
+use Rattle.rules.specs.declared.Refusal.{Refusal}
+use Rattle.domain.specs.Calls.{Changed, Narrowed}
+use Rattle.domain.specs.declared.Answered.{Answered}
 use Rattle.domain.specs.declared.BitDomain.{BitDomain}
-use Rattle.domain.specs.declared.Told.{Told}
-use Rattle.domain.specs.declared.Outcome.{Outcome}
-use Rattle.domain.specs.declared.Changed.{Changed}
-use Rattle.domain.specs.declared.Narrowed.{Narrowed}
 
-abbrev pub changed : BitDomain → Told → Changed
+abbrev pub behind : {A : Type 0} → BitDomain → Result A Refusal → Answered A
+behind d a = record { domain = d; answer = a }
+
+abbrev pub changed : BitDomain → Result Bool Refusal → Changed
 changed d a = record { domain = d; answer = a }
 
-abbrev pub narrowed : BitDomain → Outcome → Narrowed
+abbrev pub narrowed : BitDomain → Result Unit Refusal → Narrowed
 narrowed d a = record { domain = d; answer = a }

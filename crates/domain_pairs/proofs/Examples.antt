@@ -1,14 +1,12 @@
 -- Worked examples: of a few values, and on both sides of offset 64, where the mask's first word ends. Assumes nothing.
 use Rattle.std.specs.Prelude.{◌≡◌, refl, true, false, ℕ, ◌^◌, ℤ, pos, negsuc}
+use Rattle.std.specs.declared.result.Result.TheVariants.{Ok}
 use Rattle.mask.specs.Val.{val, mask_of}
 use Rattle.mask.specs.Sets.{members_from, members_in}
 use Rattle.offset.specs.Places.{span_of}
 use Rattle.rules.specs.declared.Refusal.TheVariants.{Broken, BadState, OtherUniverse}
 use Rattle.domain.specs.Set.{values_of, well, bits_of}
 use Rattle.domain.specs.declared.BitDomain.{BitDomain}
-use Rattle.domain.specs.declared.Told.TheVariants as told
-use Rattle.domain_pairs.specs.declared.Kept.TheVariants as kept
-use Rattle.domain_pairs.specs.declared.Masked.TheVariants as masked
 use Rattle.domain_pairs.specs.Calls.{done, refused, same_bounds, intersect_of, union_of, is_subset_of, equals_of, union_mask_of, remove_by_mask_of, save_state_of, restore_mask_of}
 use Rattle.domain_pairs.proofs.Theorems.{union-bits, intersect-bits}
 
@@ -25,24 +23,24 @@ common : intersect_of evens (bits (pos 0) (pos 4) 7 0) ≡ done (bits (pos 0) (p
 unfolding intersect_of same_bounds well span_of values_of bits_of val mask_of members_from members_in
 common = refl
 
-together : union_mask_of evens (bits (pos 0) (pos 4) 3 0) ≡ masked.Bits (record { lo = 23; hi = 0 })
+together : union_mask_of evens (bits (pos 0) (pos 4) 3 0) ≡ Ok (record { lo = 23; hi = 0 })
 unfolding union_mask_of same_bounds well span_of values_of bits_of val mask_of members_from members_in
 together = refl
 
-part : is_subset_of (bits (pos 0) (pos 4) 5 0) evens ≡ told.Is true
+part : is_subset_of (bits (pos 0) (pos 4) 5 0) evens ≡ Ok true
 unfolding is_subset_of same_bounds well span_of values_of val members_from members_in
 part = refl
 
-less : equals_of (bits (pos 0) (pos 4) 5 0) evens ≡ told.Is false
+less : equals_of (bits (pos 0) (pos 4) 5 0) evens ≡ Ok false
 unfolding equals_of same_bounds well span_of values_of val members_from members_in
 less = refl
 
 -- the bits of 2, and of 5, which is outside
-struck : remove_by_mask_of evens (record { lo = 36; hi = 0 }) ≡ record { domain = bits (pos 0) (pos 4) 17 0; answer = told.Is true }
+struck : remove_by_mask_of evens (record { lo = 36; hi = 0 }) ≡ record { domain = bits (pos 0) (pos 4) 17 0; answer = Ok true }
 unfolding remove_by_mask_of well span_of values_of bits_of val mask_of members_from members_in
 struck = refl
 
-kept-as : save_state_of evens ≡ kept.State (record { mask = record { lo = 21; hi = 0 }; size = 3 })
+kept-as : save_state_of evens ≡ Ok (record { mask = record { lo = 21; hi = 0 }; size = 3 })
 unfolding save_state_of well span_of values_of val members_from members_in
 kept-as = refl
 
@@ -66,7 +64,7 @@ broken-first : intersect_of (bits (pos 0) (pos 63) 1 0) (bits (pos 0) (pos 64) 1
 unfolding intersect_of well span_of val
 broken-first = refl
 
-no-subset : is_subset_of (bits (pos 0) (pos 63) 1 0) (bits (pos 0) (pos 64) 1 0) ≡ told.Is false
+no-subset : is_subset_of (bits (pos 0) (pos 63) 1 0) (bits (pos 0) (pos 64) 1 0) ≡ Ok false
 unfolding is_subset_of same_bounds well span_of val
 no-subset = refl
 

@@ -1,6 +1,7 @@
 -- What the calls mean for the sets that the domains hold, that their results are well formed, and that what was saved comes back.
 -- Assumes nothing.
-use Rattle.std.specs.Prelude.{◌≡◌, refl, Bool, true, false, not, ◌&&◌, ◌||◌, cond, ◌↔◌, ℕ, ◌^◌, ◌<◌, T, ℤ}
+use Rattle.std.specs.Prelude.{◌≡◌, refl, Bool, true, false, not, ◌&&◌, ◌||◌, cond, ◌↔◌, ℕ, ◌^◌, ◌<◌, T, ℤ, Result}
+use Rattle.std.specs.declared.result.Result.TheVariants.{Ok, Err}
 use Rattle.std.specs.Int.Bits.{bit_and, bit_or}
 use Rattle.std.proofs.Common.{sym, ap, ◌∙◌, subst, ⊎_elim, arith, ltb→lt, eqb-true, lt-ltb}
 use Rattle.mask.specs.Val.{val, mask_of, Fit, mask-val}
@@ -9,16 +10,14 @@ use Rattle.mask.specs.declared.Mask.{Mask}
 use Rattle.rules.specs.Sets.{Chutes, same, has, strike, Within}
 use Rattle.rules.proofs.SetLaws.{same_refl, has-keep, has-strike}
 use Rattle.rules.proofs.Tests.{or_cases, and_both, and_left, and_right, on-cond, is_true, true-is}
+use Rattle.rules.specs.declared.Refusal.{Refusal}
 use Rattle.rules.specs.declared.Refusal.TheVariants.{Broken}
 use Rattle.domain.specs.Set.{values_of, set_of, width, universe, well, bits_of, holding}
 use Rattle.domain.specs.declared.BitDomain.{BitDomain}
-use Rattle.domain.specs.declared.Narrowed.{Narrowed}
-use Rattle.domain.specs.declared.Told.TheVariants as told
+use Rattle.domain.specs.Calls.{Narrowed}
 use Rattle.domain.proofs.Laws.{from-keep, from-values, from-range}
 use Rattle.domain.proofs.Places.{well-fits}
 use Rattle.domain_pairs.specs.declared.BitState.{BitState}
-use Rattle.domain_pairs.specs.declared.Masked.TheVariants as masked
-use Rattle.domain_pairs.specs.declared.Kept.TheVariants as kept
 use Rattle.domain_pairs.specs.Calls.{within, both, either, done, both_well, same_bounds, joins, intersect_of, union_of, is_subset_of, equals_of, union_mask_of, remove_by_mask_of, state_of, save_state_of, fits, with_mask, restore_mask_of, restore_state_of}
 use Rattle.domain_pairs.proofs.Masks.{all-within, within_all, minus-bits}
 use Rattle.domain_pairs.proofs.Universes.{well-first, well-second, same-min, same-max, same_width, same_start, both_bits, either-bits, equal-test}
@@ -29,11 +28,8 @@ absorbed true b f = refl
 absorbed false true f = absurd (f tt)
 absorbed false false f = refl
 
-told-inj : (s t : Bool) → told.Is s ≡ told.Is t → s ≡ t
-told-inj s t q = cc
-
-state-inj : (s t : BitState) → kept.State s ≡ kept.State t → s ≡ t
-state-inj s t q = cc
+ok-inj : {A : Type 0} {s t : A} → ◌≡◌ {A = Result A Refusal} (Ok s) (Ok t) → s ≡ t
+ok-inj q = cc
 
 -- ---- two well-formed domains over the same universe
 
@@ -79,24 +75,24 @@ module _ (d e : BitDomain) (w : both_well d e ≡ true) (b : same_bounds d e ≡
       ∙ has-keep (λ y. has y (set_of d) || has y (set_of e)) x (universe d)
       ∙ absorbed (has x (universe d)) (has x (set_of d) || has x (set_of e)) (in-universe x))
 
-  pub union-mask-is : union_mask_of d e ≡ masked.Bits (union_of d e).domain.mask
+  pub union-mask-is : union_mask_of d e ≡ Ok (union_of d e).domain.mask
   unfolding union_mask_of union_of
   union-mask-is = rw (w, b)
 
   -- yes just where every value of the one is held by the other
-  pub subset-means : (is_subset_of d e ≡ told.Is true) ↔ Within (set_of d) (set_of e)
+  pub subset-means : (is_subset_of d e ≡ Ok true) ↔ Within (set_of d) (set_of e)
   unfolding is_subset_of
   subset-means = (
-    λ q. within_all (set_of d) (set_of e) (true-is (told-inj (within (set_of d) (set_of e)) true (rw (w, b) at q))),
+    λ q. within_all (set_of d) (set_of e) (true-is (ok-inj (rw (w, b) at q))),
     λ f. rw (w, b, is_true (within (set_of d) (set_of e)) (all-within (set_of d) (set_of e) f)),
   )
 
 -- ---- two well-formed domains
 
 -- yes just where they are the same domain; `Fit`: of the masks that a program holds
-pub equal-means : (d e : BitDomain) → both_well d e ≡ true → Fit d.mask → Fit e.mask → (equals_of d e ≡ told.Is true) ↔ (d ≡ e)
+pub equal-means : (d e : BitDomain) → both_well d e ≡ true → Fit d.mask → Fit e.mask → (equals_of d e ≡ Ok true) ↔ (d ≡ e)
 unfolding equals_of same_bounds
-equal-means d e w f g = (λ q. there (true-is (told-inj (same_bounds d e && each) true (rw w at q))), λ q. rw (w, is_true (same_bounds d e && each) (back q)))
+equal-means d e w f g = (λ q. there (true-is (ok-inj (rw w at q))), λ q. rw (w, is_true (same_bounds d e && each) (back q)))
   where
     each : Bool
     each = within (set_of d) (set_of e) && within (set_of e) (set_of d)
@@ -162,13 +158,13 @@ module _ (d : BitDomain) (w : well d ≡ true) (m : Mask) where
   restored-set f = rw (w, f)
 
 -- ---- what was saved comes back, whatever the domain over the same universe holds by then
-pub restore-saved : (d now : BitDomain) (s : BitState) → save_state_of d ≡ kept.State s → well now ≡ true → same_bounds now d ≡ true → restore_state_of now s ≡ done d
+pub restore-saved : (d now : BitDomain) (s : BitState) → save_state_of d ≡ Ok s → well now ≡ true → same_bounds now d ≡ true → restore_state_of now s ≡ done d
 unfolding save_state_of restore_mask_of
 restore-saved d now s q w b = go (well d) refl q
   where
-    go : (t : Bool) → well d ≡ t → cond t (kept.State (state_of d)) (kept.Refused Broken) ≡ kept.State s → restore_state_of now s ≡ done d
+    go : (t : Bool) → well d ≡ t → cond t (Ok (state_of d)) (Err Broken) ≡ Ok s → restore_state_of now s ≡ done d
     go false e p = let z : ◌≡◌ {A = ℕ} 0 1 = cc in absurd (omega arith)
     go true e p =
-        let m : s.mask ≡ d.mask = ap (λ (t : BitState). t.mask) (sym (state-inj (state_of d) s p)) in
+        let m : s.mask ≡ d.mask = ap (λ (t : BitState). t.mask) (sym (ok-inj p)) in
         let f : fits now s.mask ≡ true = rw m (lt-ltb (val d.mask) (2 ^ width now) (subst (λ (n : ℕ). val d.mask < 2 ^ n) (same_width now d b) (well-fits d e))) in
         rw (w, f) (λ i. done (record { mask = m i; min = same-min now d b i; max = same-max now d b i }))

@@ -24,17 +24,3 @@ pub struct BitState {
     pub mask: Mask,
     pub size: usize,
 }
-
-// Which offsets.
-#[derive(Clone, Copy)]
-pub enum Masked {
-    Bits(Mask),
-    Refused(Refusal),
-}
-
-// What a call that saves answers.
-#[derive(Clone, Copy)]
-pub enum Kept {
-    State(BitState),
-    Refused(Refusal),
-}

@@ -1,5 +1,6 @@
 -- The definitions, run. Assumes nothing.
 use Rattle.std.specs.Prelude.{◌≡◌, refl, [], ◌∷◌, pos, negsuc}
+use Rattle.std.specs.declared.result.Result.TheVariants.{Ok, Err}
 use Rattle.decimal.specs.Decimal.{digits, natural, decimal}
 use Rattle.mask.specs.Val.{val}
 use Rattle.mask.specs.Sets.{members_in, members_from}
@@ -7,7 +8,6 @@ use Rattle.offset.specs.Places.{span_of}
 use Rattle.rules.specs.declared.Refusal.TheVariants.{Broken, NoRoom}
 use Rattle.domain.specs.Set.{values_of, well}
 use Rattle.domain.specs.declared.BitDomain.{BitDomain}
-use Rattle.domain.specs.declared.Counted.TheVariants.{Count, Refused}
 use Rattle.domain_text.specs.Text.{commaed, listed, follow, first_run, text_of, write_text_of}
 
 -- ---- texts
@@ -43,19 +43,19 @@ abbrev three : BitDomain
 three = record { mask = record { lo = 21; hi = 0 }; min = pos 0; max = pos 4 }
 
 -- what lies past the text stays
-written : write_text_of three (7 ∷ 7 ∷ 7 ∷ 7 ∷ 7 ∷ 7 ∷ 7 ∷ 7 ∷ []) ≡ record { answer = Count 7; cells = 91 ∷ 48 ∷ 124 ∷ 50 ∷ 44 ∷ 52 ∷ 93 ∷ 7 ∷ [] }
+written : write_text_of three (7 ∷ 7 ∷ 7 ∷ 7 ∷ 7 ∷ 7 ∷ 7 ∷ 7 ∷ []) ≡ record { answer = Ok 7; cells = 91 ∷ 48 ∷ 124 ∷ 50 ∷ 44 ∷ 52 ∷ 93 ∷ 7 ∷ [] }
 unfolding write_text_of text_of listed commaed first_run follow decimal natural digits well values_of val members_in members_from span_of
 written = refl
 
-exactly-full : write_text_of three (7 ∷ 7 ∷ 7 ∷ 7 ∷ 7 ∷ 7 ∷ 7 ∷ []) ≡ record { answer = Count 7; cells = 91 ∷ 48 ∷ 124 ∷ 50 ∷ 44 ∷ 52 ∷ 93 ∷ [] }
+exactly-full : write_text_of three (7 ∷ 7 ∷ 7 ∷ 7 ∷ 7 ∷ 7 ∷ 7 ∷ []) ≡ record { answer = Ok 7; cells = 91 ∷ 48 ∷ 124 ∷ 50 ∷ 44 ∷ 52 ∷ 93 ∷ [] }
 unfolding write_text_of text_of listed commaed first_run follow decimal natural digits well values_of val members_in members_from span_of
 exactly-full = refl
 
-one-short : write_text_of three (7 ∷ 7 ∷ 7 ∷ 7 ∷ 7 ∷ 7 ∷ []) ≡ record { answer = Refused NoRoom; cells = 7 ∷ 7 ∷ 7 ∷ 7 ∷ 7 ∷ 7 ∷ [] }
+one-short : write_text_of three (7 ∷ 7 ∷ 7 ∷ 7 ∷ 7 ∷ 7 ∷ []) ≡ record { answer = Err NoRoom; cells = 7 ∷ 7 ∷ 7 ∷ 7 ∷ 7 ∷ 7 ∷ [] }
 unfolding write_text_of text_of listed commaed first_run follow decimal natural digits well values_of val members_in members_from span_of
 one-short = refl
 
 -- a bit beyond the universe
-ill-formed : write_text_of (record { mask = record { lo = 32; hi = 0 }; min = pos 0; max = pos 4 }) (7 ∷ []) ≡ record { answer = Refused Broken; cells = 7 ∷ [] }
+ill-formed : write_text_of (record { mask = record { lo = 32; hi = 0 }; min = pos 0; max = pos 4 }) (7 ∷ []) ≡ record { answer = Err Broken; cells = 7 ∷ [] }
 unfolding write_text_of well val span_of
 ill-formed = refl

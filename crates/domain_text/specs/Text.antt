@@ -1,10 +1,9 @@
 -- A set of chutes as text: the values of the first run, a bar, then the others. Assumes nothing.
-use Rattle.std.specs.Prelude.{cond, List, [], ◌∷◌, ◌++◌, ℕ, suc, ◌+◌, ℤ, pos, ◌+ℤ◌, length, take, drop, leb}
+use Rattle.std.specs.Prelude.{cond, List, [], ◌∷◌, ◌++◌, ℕ, suc, ◌+◌, ℤ, pos, ◌+ℤ◌, length, take, drop, leb, Result}
+use Rattle.std.specs.declared.result.Result.TheVariants.{Ok, Err}
 use Rattle.decimal.specs.Decimal.{decimal}
 use Rattle.domain.specs.Set.{set_of, well}
 use Rattle.domain.specs.declared.BitDomain.{BitDomain}
-use Rattle.domain.specs.declared.Counted.{Counted}
-use Rattle.domain.specs.declared.Counted.TheVariants.{Count, Refused}
 use Rattle.rules.specs.Sets.{Chutes, same}
 use Rattle.rules.specs.declared.Refusal.{Refusal}
 use Rattle.rules.specs.declared.Refusal.TheVariants.{Broken, NoRoom}
@@ -35,17 +34,17 @@ text_of s = 91 ∷ (listed (take (first_run s) s) ++ (124 ∷ (listed (drop (fir
 
 -- what is answered, and the lent bytes
 pub record Written : Type 0 where
-  pub answer : Counted
+  pub answer : Result ℕ Refusal
   pub cells : List ℕ
 
 abbrev pub refuses : Refusal → List ℕ → Written
-refuses why cells = record { answer = Refused why; cells = cells }
+refuses why cells = record { answer = Err why; cells = cells }
 
 -- the text in the first bytes, where it fits, and how long it is
 abbrev pub writes : List ℕ → List ℕ → Written
 writes text cells =
     cond (leb (length text) (length cells))
-    (record { answer = Count (length text); cells = text ++ drop (length text) cells })
+    (record { answer = Ok (length text); cells = text ++ drop (length text) cells })
     (refuses NoRoom cells)
 
 -- `write_text`

@@ -6,12 +6,12 @@
 // 1538 bytes.
 #![tactic(auto)]
 
-ghost use Rattle.std.specs.Prelude.{◌≡◌, ◌+◌, ◌-◌, ◌<◌, ◌≤◌, ℤ, length, take, drop};
+ghost use Rattle.std.specs.Prelude.{◌≡◌, ◌+◌, ◌<◌, ◌≤◌, ℤ, length, take, drop};
 ghost use Rattle.decimal.specs.Put.{put_of};
 ghost use Rattle.domain.specs.Set.{values_of};
 ghost use Rattle.domain_text.specs.Text.{listed, first_run, text_of, sizes, write_text_of};
 
-use domain::{BitDomain, Counted};
+use domain::BitDomain;
 use mask::Mask;
 use rules::Refusal;
 
@@ -33,18 +33,12 @@ fn first_run(m: Mask) -> Run
     let mut last = mask::lowest(m);
     let mut rest = mask::rest(m);
     let mut count: usize = 1;
-    loop {
-        if mask::is_none(rest) {
-            return Run { count, rest };
-        }
-        let k = mask::lowest(rest);
-        if k != last + 1 {
-            return Run { count, rest };
-        }
-        last = k;
+    while !mask::is_none(rest) && mask::lowest(rest) == last + 1 {
+        last += 1;
         rest = mask::rest(rest);
         count += 1;
     }
+    Run { count, rest }
 }
 
 // How many bytes the values take, commas left out.
@@ -53,33 +47,20 @@ fn digits(min: i32, m: Mask) -> usize
 {
     let mut left = m;
     let mut sum: usize = 0;
-    loop {
-        if mask::is_none(left) {
-            return sum;
-        }
-        let k = mask::lowest(left);
-        sum += decimal::size(inner::value(min, k));
+    while !mask::is_none(left) {
+        sum += decimal::size(inner::value(min, mask::lowest(left)));
         left = mask::rest(left);
     }
+    sum
 }
 
-// How many commas stand between n values.
-fn commas(n: usize) -> usize
-    ensures { result ≡ n - 1 }
-{
-    if n == 0 {
-        return 0;
-    }
-    n - 1
-}
-
-// How many bytes the text has: the brackets, the bar, the values, and the commas on either side of the bar.
+// How many bytes the text has: the brackets, the bar, the values, and the commas on either side of the bar, one fewer than the values there.
 fn text_size(min: i32, m: Mask) -> usize
     ensures { result ≡ length (text_of (values_of min m)) }
 {
     let n = mask::count(m);
     let run = first_run(m);
-    3 + digits(min, m) + commas(run.count) + commas(n - run.count)
+    3 + digits(min, m) + run.count.saturating_sub(1) + (n - run.count).saturating_sub(1)
 }
 
 // Puts the n lowest values at `at`, and answers the place after them.
@@ -92,12 +73,10 @@ fn put_values(min: i32, m: Mask, n: usize, out: &mut [u8], at: usize) -> usize
     }
     let mut e = decimal::put(inner::value(min, mask::lowest(m)), out, at);
     let mut left = mask::rest(m);
-    let mut i: usize = 1;
-    while i < n {
+    for _ in 1..n {
         out[e] = b',';
         e = decimal::put(inner::value(min, mask::lowest(left)), out, e + 1);
         left = mask::rest(left);
-        i += 1;
     }
     e
 }
@@ -116,17 +95,15 @@ fn put_text(min: i32, m: Mask, out: &mut [u8])
 }
 
 // Puts d's text at the start, and answers how long it is. Broken: d isn't well formed. NoRoom: the text is longer than out.
-pub fn write_text(d: BitDomain, out: &mut [u8]) -> Counted
+#[tactic(auto, unfolding(crate::specs::Text::write_text_of))]
+pub fn write_text(d: BitDomain, out: &mut [u8]) -> Result<usize, Refusal>
     ensures { record { answer = result; cells = out.new } ≡ write_text_of d out.old }
 {
-    if domain::inner::is_well(d) {
-        let n = text_size(d.min, d.mask);
-        if out.len() < n {
-            return Counted::Refused(Refusal::NoRoom);
-        }
-        put_text(d.min, d.mask, out);
-        Counted::Count(n)
-    } else {
-        Counted::Refused(Refusal::Broken)
+    domain::inner::check(d)?;
+    let n = text_size(d.min, d.mask);
+    if out.len() < n {
+        return Err(Refusal::NoRoom);
     }
+    put_text(d.min, d.mask, out);
+    Ok(n)
 }

@@ -1,3 +1,4 @@
 pub mod Walk
 pub mod Spread
 pub mod Theorems
+mod Filled

@@ -1,8 +1,13 @@
 -- The smallest and the largest of some values, and the mask of the values over the universe from the one to the other. Assumes nothing.
 use Rattle.std.specs.Prelude.{◌≡◌, refl, Bool, true, false, cond, ◌&&◌, [], ◌∷◌, ℕ, suc, ◌+◌, ◌^◌, ◌≤◌, ◌<◌, T, ℤ, pos, ◌+ℤ◌, ◌-ℤ◌, length, get_or, drop}
+use Rattle.std.specs.declared.result.Result.TheVariants.{Ok, Err}
+use Rattle.rules.specs.declared.Refusal.{Refusal}
+use Rattle.std.specs.Result.{result_unwrap_or}
 use Rattle.std.specs.Int.Bits.{bit_or, or_zero_r}
 use Rattle.std.specs.Int.Signed.{le_z}
-use Rattle.std.proofs.Common.{sym, ap, ◌∙◌, add-one, arith, drop_of_length-le, drop-cons, ltb-true}
+use Rattle.std.specs.Int.{w32}
+use Rattle.domain.proofs.Signed.{read}
+use Rattle.std.proofs.Common.{sym, ap, ◌∙◌, SFits, to_z, of_z, add-one, arith, drop_of_length-le, drop-cons, ltb-true}
 use Rattle.mask.specs.Bit.{bit-or, ext}
 use Rattle.mask.specs.Sets.{In}
 use Rattle.offset.specs.Places.{natural, place_of, span_of}
@@ -14,8 +19,6 @@ use Rattle.rules.specs.declared.Refusal.TheVariants.{TooWide}
 use Rattle.domain.specs.Set.{bits_of, range}
 use Rattle.domain.specs.Calls.{invalid, narrow}
 use Rattle.domain.specs.declared.BitDomain.{BitDomain}
-use Rattle.domain.specs.declared.Made.{Made}
-use Rattle.domain.specs.declared.Made.TheVariants as made
 use Rattle.domain.proofs.Laws.{From, from-offset, bits_in, in-bits, range-bits}
 use Rattle.domain_values.specs.Calls.{within, among, nothing, spread, from_values_of, try_from_values_of}
 use Rattle.ends.specs.Ends.{smallest_of, largest_of}
@@ -71,6 +74,11 @@ module _ (lo hi : ℤ) (vs : Chutes) (w : within lo hi vs ≡ true) where
   pub bits-among : bits_of lo vs ≡ bits_of lo (keep (λ x. has x vs) (range lo (span_of lo hi)))
   bits-among = range-bits lo (span_of lo hi) (λ x. has x vs) (bits_of lo vs) (λ k h. (bits_inside k h, in-bits lo vs k from-within h)) (λ k l h. bits_in lo vs k h)
 
+-- a value's offset, as it is computed of the numbers that are read
+pub place-is : (lo hi x : ℤ) (n k : ℕ) → SFits w32 lo → SFits w32 hi → SFits w32 x → n ≡ span_of (to_z w32 (of_z w32 lo)) (to_z w32 (of_z w32 hi))
+    → k ≡ place_of n (to_z w32 (of_z w32 x) -ℤ to_z w32 (of_z w32 lo)) → k ≡ place_of (span_of lo hi) (x -ℤ lo)
+place-is lo hi x n k f g h m e = e ∙ (λ j. place_of (m j) (read x h j -ℤ read lo f j)) ∙ (λ j. place_of (span_of (read lo f j) (read hi g j)) (x -ℤ lo))
+
 pub bits-end : (lo : ℤ) (vs : Chutes) (n i : ℕ) → length vs ≤ i → bit_or n (bits_of lo (drop i vs)) ≡ n
 unfolding bits_of
 bits-end lo vs n i h = ap (λ (l : Chutes). bit_or n (bits_of lo l)) (drop_of_length-le vs {i = i} h) ∙ or_zero_r n
@@ -86,15 +94,13 @@ module _ {A : Type 0} (f : BitDomain → A) (wide : A) where
   spread-some [] h = absurd (h refl)
   spread-some (x ∷ s) h = refl
 
-abbrev pub or_invalid : Made → BitDomain
-or_invalid (made.Domain d) = d
-or_invalid (made.Refused r) = invalid
-
-pub from-try : (vs : Chutes) → or_invalid (try_from_values_of vs) ≡ from_values_of vs
+-- no domain where the universe would be too wide
+pub from-try : (vs : Chutes) → result_unwrap_or (try_from_values_of vs) invalid ≡ from_values_of vs
 unfolding from_values_of try_from_values_of
 from-try [] = refl
 from-try (x ∷ s) = go (narrow (smallest_of (x ∷ s)) (largest_of (x ∷ s)))
   where
-    go : (b : Bool) → or_invalid (cond b (made.Domain (among (smallest_of (x ∷ s)) (largest_of (x ∷ s)) (x ∷ s))) (made.Refused TooWide)) ≡ cond b (among (smallest_of (x ∷ s)) (largest_of (x ∷ s)) (x ∷ s)) invalid
+    go : (b : Bool)
+        → result_unwrap_or {E = Refusal} (cond b (Ok (among (smallest_of (x ∷ s)) (largest_of (x ∷ s)) (x ∷ s))) (Err TooWide)) invalid ≡ cond b (among (smallest_of (x ∷ s)) (largest_of (x ∷ s)) (x ∷ s)) invalid
     go true = refl
     go false = refl

@@ -1,6 +1,8 @@
 -- What the calls promise together: a walk yields exactly the values, `to_vec` writes them in front, and a domain made from values holds
 -- exactly those. `Fit` and `SFits` hold of whatever a program holds: each word is a word, each bound an i32. Assumes nothing.
 use Rattle.std.specs.Prelude.{◌≡◌, refl, Bool, true, false, cond, List, [], ◌∷◌, ◌++◌, ℕ, zero, suc, ◌+◌, ◌^◌, ◌≤◌, ◌<◌, T, ltb, ℤ, pos, negsuc, ◌+ℤ◌, ◌-ℤ◌, length, take, drop}
+use Rattle.std.specs.declared.result.Result.TheVariants.{Ok, Err}
+use Rattle.std.specs.declared.option.Option.TheVariants.{None}
 use Rattle.std.specs.Int.Signed.{lt_z, le_z}
 use Rattle.std.specs.Int.{w32}
 use Rattle.std.proofs.Common.{sym, ap, ◌∙◌, subst, lt_of_lt_of_le, arith, le→leb, pow_mono, pow_pos, SFits, lt-ltb, le-ltb, ltb-false, le-leb, leb-true, ne_eqb}
@@ -22,16 +24,13 @@ use Rattle.rules.specs.declared.Refusal.TheVariants.{Broken, NoRoom}
 use Rattle.domain.specs.Set.{values_of, set_of, range, width, well, bits_of}
 use Rattle.domain.specs.Calls.{invalid, narrow}
 use Rattle.domain.specs.declared.BitDomain.{BitDomain}
-use Rattle.domain.specs.declared.Counted.TheVariants as counted
 use Rattle.domain.proofs.Laws.{in-values, values-offset, same-mask, bits_in, in-bits}
 use Rattle.domain.proofs.Places.{well-width, well-in}
 use Rattle.domain_values.specs.Calls.{left_in, well_cursor, cursor_of, iter_of, leaving, step_of, next_of, Written, written, in_front, to_vec_of, within, among, nothing, from_values_of}
 use Rattle.ends.specs.Ends.{smallest_of, largest_of}
 use Rattle.domain_values.specs.Runs.{told, yields, after}
-use Rattle.domain_values.specs.declared.Begun.TheVariants as begun
 use Rattle.domain_values.specs.declared.BitCursor.{BitCursor}
 use Rattle.domain_values.specs.declared.Stepped.{Stepped}
-use Rattle.domain_values.specs.declared.Yielded.TheVariants as yielded
 use Rattle.domain_values.proofs.Walk.{bits-values}
 use Rattle.domain.proofs.Ends.{values-first, none-values}
 use Rattle.domain.proofs.Theorems.{values-ascend}
@@ -85,7 +84,7 @@ module _ (c : BitCursor) (w : well_cursor c ≡ true) where
       go [] = refl
       go (x ∷ s) = refl
 
-  pub next-ends : left_in c ≡ [] → next_of c ≡ record { cursor = c; answer = yielded.End }
+  pub next-ends : left_in c ≡ [] → next_of c ≡ record { cursor = c; answer = Ok None }
   next-ends e = next-is ∙ ap (step_of c) e
 
   module _ (f : Fit c.mask) where
@@ -153,14 +152,14 @@ module _ (d : BitDomain) (w : well d ≡ true) (f : Fit d.mask) (g : SFits w32 d
       let r = values-offset d.min d.mask x h in
       most-trans x d.max (pos 2147483647) (rw r.1 (true-is (le-span d.min d.max r.0 ∙ lt-ltb r.0 (width d) (well-in d w r.0 r.2)))) (top d.max g)))
 
-  pub iter-begins : iter_of d ≡ begun.Cursor (cursor_of d)
+  pub iter-begins : iter_of d ≡ Ok (cursor_of d)
   unfolding iter_of
   iter-begins = rw w
 
   pub walk-yields : yields (length (set_of d)) (cursor_of d) ≡ set_of d
   walk-yields = steps-tell (length (set_of d)) (cursor_of d) iter-well f ∙ take-length (set_of d)
 
-  pub walk_ends : next_of (after (length (set_of d)) (cursor_of d)) ≡ record { cursor = after (length (set_of d)) (cursor_of d); answer = yielded.End }
+  pub walk_ends : next_of (after (length (set_of d)) (cursor_of d)) ≡ record { cursor = after (length (set_of d)) (cursor_of d); answer = Ok None }
   walk_ends =
       let n = length (set_of d) in
       next-ends (after n (cursor_of d)) (steps-well n (cursor_of d) iter-well f) (steps-leave n (cursor_of d) iter-well f ∙ drop-length (set_of d))
@@ -173,7 +172,7 @@ module _ (d : BitDomain) (cells : List ℤ) where
     unfolding to_vec_of
     copied = rw (w, le-ltb (length cells) (length (set_of d)) room)
 
-    pub vec-counts : (to_vec_of d cells).answer ≡ counted.Count (length (set_of d))
+    pub vec-counts : (to_vec_of d cells).answer ≡ Ok (length (set_of d))
     vec-counts = ap (λ (t : Written). t.answer) copied
 
     pub vec-front : take (length (set_of d)) (to_vec_of d cells).cells ≡ set_of d
@@ -183,14 +182,14 @@ module _ (d : BitDomain) (cells : List ℤ) where
     vec-keeps = ap (λ (t : Written). drop (length (set_of d)) t.cells) copied ∙ drop-append_seam (set_of d) (drop (length (set_of d)) cells)
 
   -- a refused call writes no cell
-  pub vec-refused : (r : Refusal) → (to_vec_of d cells).answer ≡ counted.Refused r → (to_vec_of d cells).cells ≡ cells
+  pub vec-refused : (r : Refusal) → (to_vec_of d cells).answer ≡ Err r → (to_vec_of d cells).cells ≡ cells
   unfolding to_vec_of
   vec-refused r = go (well d) (ltb (length cells) (length (set_of d)))
     where
       by : Bool → Bool → Written
-      by a b = cond a (cond b (written (counted.Refused NoRoom) cells) (in_front (set_of d) cells)) (written (counted.Refused Broken) cells)
+      by a b = cond a (cond b (written (Err NoRoom) cells) (in_front (set_of d) cells)) (written (Err Broken) cells)
 
-      go : (a b : Bool) → (by a b).answer ≡ counted.Refused r → (by a b).cells ≡ cells
+      go : (a b : Bool) → (by a b).answer ≡ Err r → (by a b).cells ≡ cells
       go true true e = refl
       go true false e = let z : ◌≡◌ {A = ℕ} 0 1 = cc in absurd (omega arith)
       go false b e = refl

@@ -1,5 +1,7 @@
 -- A mask's values one by one: the lowest offset's comes first, and the rest are those of the mask without it. Assumes nothing.
 use Rattle.std.specs.Prelude.{◌≡◌, Bool, true, ℕ, ◌^◌, ◌≤◌, ◌<◌, T, ltb, ℤ, pos, ◌+ℤ◌}
+use Rattle.std.specs.declared.result.Result.TheVariants.{Ok}
+use Rattle.std.specs.declared.option.Option.TheVariants.{None, Some}
 use Rattle.std.specs.Int.Signed.{le_z}
 use Rattle.std.specs.Int.{w32}
 use Rattle.std.proofs.Common.{sym, ap, ◌∙◌, lt_of_lt_of_le, arith, pow_mono, SFits, lt-ltb, ltb-true}
@@ -19,7 +21,6 @@ use Rattle.domain.proofs.Laws.{in-values, values-in, values-offset, from-values,
 use Rattle.domain_values.specs.Calls.{left_in, well_cursor, next_of}
 use Rattle.domain_values.specs.declared.BitCursor.{BitCursor}
 use Rattle.domain_values.specs.declared.Stepped.{Stepped}
-use Rattle.domain_values.specs.declared.Yielded.TheVariants as yielded
 use Rattle.rules.proofs.SetLaws.{every-at, every_of}
 
 -- ---- the values of a mask
@@ -78,13 +79,13 @@ module _ (c : BitCursor) where
 
     -- ---- a step
 
-    pub next-end : val c.mask ≡ 0 → ◌≡◌ {A = Stepped} (record { cursor = c; answer = yielded.End }) (next_of c)
+    pub next-end : val c.mask ≡ 0 → ◌≡◌ {A = Stepped} (record { cursor = c; answer = Ok None }) (next_of c)
     unfolding next_of
     next-end e = rw (w, none-values c.min c.mask e)
 
     pub next_more : (k : ℕ) (r : Mask) → Lowest (val c.mask) k → Fit r → val r ≡ bit_minus (val c.mask) (2 ^ k)
-        → ◌≡◌ {A = Stepped} (record { cursor = record { mask = r; min = c.min }; answer = yielded.Next (record { 0 = c.min +ℤ pos k }) }) (next_of c)
+        → ◌≡◌ {A = Stepped} (record { cursor = record { mask = r; min = c.min }; answer = Ok (Some (record { 0 = c.min +ℤ pos k })) }) (next_of c)
     unfolding next_of
     next_more k r p f e =
         rw (w, values-first c.min c.mask r k p e)
-        (λ i. record { cursor = record { mask = mask-eq r (bits_of c.min (values_of c.min r)) f (sym (bits-values c.min r)) i; min = c.min }; answer = yielded.Next (record { 0 = c.min +ℤ pos k }) })
+        (λ i. record { cursor = record { mask = mask-eq r (bits_of c.min (values_of c.min r)) f (sym (bits-values c.min r)) i; min = c.min }; answer = Ok (Some (record { 0 = c.min +ℤ pos k })) })

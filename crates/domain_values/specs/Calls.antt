@@ -1,22 +1,18 @@
 -- What each call answers and what it hands back, on every input.
-use Rattle.std.specs.Prelude.{Bool, ◌&&◌, cond, List, [], ◌∷◌, ◌++◌, ltb, length, drop, ℤ, pos, negsuc}
+use Rattle.std.specs.Prelude.{Bool, ◌&&◌, cond, List, [], ◌∷◌, ◌++◌, ltb, length, drop, ℤ, pos, negsuc, Result, ℕ}
+use Rattle.std.specs.declared.result.Result.TheVariants.{Ok, Err}
+use Rattle.std.specs.declared.option.Option.TheVariants.{None, Some}
+use Rattle.rules.specs.declared.Refusal.{Refusal}
 use Rattle.std.specs.Int.Signed.{le_z}
 use Rattle.mask.specs.Val.{mask_of}
 use Rattle.offset.specs.Places.{span_of}
 use Rattle.rules.specs.Sets.{Chutes, has, keep, every}
 use Rattle.rules.specs.declared.Refusal.TheVariants.{Broken, TooWide, NoRoom}
 use Rattle.domain.specs.declared.BitDomain.{BitDomain}
-use Rattle.domain.specs.declared.Made.{Made}
-use Rattle.domain.specs.declared.Made.TheVariants as made
-use Rattle.domain.specs.declared.Counted.{Counted}
-use Rattle.domain.specs.declared.Counted.TheVariants as counted
 use Rattle.ends.specs.Ends.{smallest_of, largest_of}
 use Rattle.domain.specs.Set.{values_of, set_of, range, well, bits_of, over}
 use Rattle.domain.specs.Calls.{invalid, narrow}
 use Rattle.domain_values.specs.declared.BitCursor.{BitCursor}
-use Rattle.domain_values.specs.declared.Begun.{Begun}
-use Rattle.domain_values.specs.declared.Begun.TheVariants as begun
-use Rattle.domain_values.specs.declared.Yielded.TheVariants as yielded
 use Rattle.domain_values.specs.declared.Stepped.{Stepped}
 
 -- ---- one by one
@@ -32,8 +28,8 @@ well_cursor c = every (λ x. le_z x (pos 2147483647)) (left_in c)
 abbrev pub cursor_of : BitDomain → BitCursor
 cursor_of d = record { mask = d.mask; min = d.min }
 
-unfoldable pub iter_of : BitDomain → Begun
-iter_of d = cond (well d) (begun.Cursor (cursor_of d)) (begun.Refused Broken)
+unfoldable pub iter_of : BitDomain → Result BitCursor Refusal
+iter_of d = cond (well d) (Ok (cursor_of d)) (Err Broken)
 
 -- a cursor over the same universe that has s still to yield
 abbrev pub leaving : BitCursor → Chutes → BitCursor
@@ -41,34 +37,34 @@ leaving c s = record { mask = mask_of (bits_of c.min s); min = c.min }
 
 -- the first of what is left, and the cursor over the others
 abbrev pub step_of : BitCursor → Chutes → Stepped
-step_of c [] = record { cursor = c; answer = yielded.End }
-step_of c (x ∷ s) = record { cursor = leaving c s; answer = yielded.Next (record { 0 = x }) }
+step_of c [] = record { cursor = c; answer = Ok None }
+step_of c (x ∷ s) = record { cursor = leaving c s; answer = Ok (Some (record { 0 = x })) }
 
 unfoldable pub next_of : BitCursor → Stepped
-next_of c = cond (well_cursor c) (step_of c (left_in c)) (record { cursor = c; answer = yielded.Refused Broken })
+next_of c = cond (well_cursor c) (step_of c (left_in c)) (record { cursor = c; answer = Err Broken })
 
-unfoldable pub left_of : BitCursor → Counted
-left_of c = cond (well_cursor c) (counted.Count (length (left_in c))) (counted.Refused Broken)
+unfoldable pub left_of : BitCursor → Result ℕ Refusal
+left_of c = cond (well_cursor c) (Ok (length (left_in c))) (Err Broken)
 
 -- ---- all at once
 
 -- an answer, and the cells as the call leaves them
 pub record Written : Type 0 where
-  pub answer : Counted
+  pub answer : Result ℕ Refusal
   pub cells : List ℤ
 
-abbrev pub written : Counted → List ℤ → Written
+abbrev pub written : Result ℕ Refusal → List ℤ → Written
 written r l = record { answer = r; cells = l }
 
 -- the values in front of the cells that they leave over
 abbrev pub in_front : Chutes → List ℤ → Written
-in_front s cells = written (counted.Count (length s)) (s ++ drop (length s) cells)
+in_front s cells = written (Ok (length s)) (s ++ drop (length s) cells)
 
 unfoldable pub to_vec_of : BitDomain → List ℤ → Written
 to_vec_of d cells =
     cond (well d)
-    (cond (ltb (length cells) (length (set_of d))) (written (counted.Refused NoRoom) cells) (in_front (set_of d) cells))
-    (written (counted.Refused Broken) cells)
+    (cond (ltb (length cells) (length (set_of d))) (written (Err NoRoom) cells) (in_front (set_of d) cells))
+    (written (Err Broken) cells)
 
 -- ---- domains from values
 
@@ -95,5 +91,5 @@ spread f wide (x ∷ s) =
 unfoldable pub from_values_of : Chutes → BitDomain
 from_values_of vs = spread (λ d. d) invalid vs
 
-unfoldable pub try_from_values_of : Chutes → Made
-try_from_values_of vs = spread made.Domain (made.Refused TooWide) vs
+unfoldable pub try_from_values_of : Chutes → Result BitDomain Refusal
+try_from_values_of vs = spread Ok (Err TooWide) vs

@@ -26,24 +26,9 @@ pub struct BitCursor {
     pub min: i32,
 }
 
-// What a call that begins a walk answers.
-#[derive(Clone, Copy)]
-pub enum Begun {
-    Cursor(BitCursor),
-    Refused(Refusal),
-}
-
-// The next value, or that there is none.
-#[derive(Clone, Copy)]
-pub enum Yielded {
-    Next(Value),
-    End,
-    Refused(Refusal),
-}
-
 // A cursor handed back, and what it yielded.
 #[derive(Clone, Copy)]
 pub struct Stepped {
     pub cursor: BitCursor,
-    pub answer: Yielded,
+    pub answer: Result<Option<Value>, Refusal>,
 }

@@ -1,9 +1,11 @@
 // All values of a domain, written into lent cells.
+#![tactic(auto, unfolding(crate::specs::Calls::to_vec_of))]
+
 ghost use Rattle.std.specs.Prelude.{◌≡◌, true, ◌++◌, ◌≤◌, length, drop};
 ghost use Rattle.domain.specs.Set.{well, set_of};
 ghost use Rattle.domain_values.specs.Calls.{written, to_vec_of};
 
-use domain::{BitDomain, Counted, inner};
+use domain::{BitDomain, inner};
 use rules::Refusal;
 
 // Writes the n values of d from the first cell on.
@@ -12,24 +14,20 @@ fn write(d: BitDomain, n: usize, cells: &mut [i32])
     ensures { cells.new ≡ set_of d ++ drop n cells.old }
 {
     let mut rest = d.mask;
-    let mut i = 0;
-    while i < n {
-        cells[i] = offset::value(d.min, mask::lowest(rest));
+    for cell in cells[..n].iter_mut() {
+        *cell = offset::value(d.min, mask::lowest(rest));
         rest = mask::rest(rest);
-        i += 1;
     }
 }
 
-pub fn to_vec(d: BitDomain, cells: &mut [i32]) -> Counted
+pub fn to_vec(d: BitDomain, cells: &mut [i32]) -> Result<usize, Refusal>
     ensures { written result cells.new ≡ to_vec_of d cells.old }
 {
-    if !inner::is_well(d) {
-        return Counted::Refused(Refusal::Broken);
-    }
+    inner::check(d)?;
     let n = mask::count(d.mask);
     if cells.len() < n {
-        return Counted::Refused(Refusal::NoRoom);
+        return Err(Refusal::NoRoom);
     }
     write(d, n, cells);
-    Counted::Count(n)
+    Ok(n)
 }

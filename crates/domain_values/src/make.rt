@@ -1,22 +1,22 @@
 // Domains made from values, in any order and with repeats: the universe goes from the smallest to the largest.
-ghost use Rattle.std.specs.Prelude.{◌≡◌, true, []};
+ghost use Rattle.std.specs.Prelude.{◌≡◌, true};
 ghost use Rattle.mask.specs.Val.{val};
-ghost use Rattle.domain.specs.Set.{bits_of, over};
+ghost use Rattle.domain.specs.Set.{bits_of};
 ghost use Rattle.domain.specs.Calls.{narrow};
-ghost use Rattle.domain_values.specs.Calls.{within, among, from_values_of, try_from_values_of};
+ghost use Rattle.domain_values.specs.Calls.{nothing, within, among, from_values_of, try_from_values_of};
 
-use domain::{BitDomain, Made};
+use domain::BitDomain;
 use mask::Mask;
 use rules::Refusal;
 
-// A universe of which nothing is held.
-fn bare(min: i32, max: i32) -> BitDomain
-    ensures { result ≡ over min max [] }
+// The domain of no values: no universe.
+fn nothing() -> BitDomain
+    ensures { result ≡ nothing }
 {
     BitDomain {
         mask: mask::empty(),
-        min,
-        max,
+        min: 0,
+        max: -1,
     }
 }
 
@@ -27,11 +27,8 @@ fn offsets_of(values: &[i32], min: i32, max: i32) -> Mask
 {
     let n = offset::span(min, max);
     let mut m = mask::empty();
-    let mut i = 0;
-    while i < values.len() {
-        let k = offset::place(values[i], min, n);
-        m = mask::with(m, k);
-        i += 1;
+    for v in values {
+        m = mask::with(m, offset::place(*v, min, n));
     }
     m
 }
@@ -48,25 +45,22 @@ fn gathered(values: &[i32], min: i32, max: i32) -> BitDomain
     }
 }
 
-pub fn try_new_from_values(values: &[i32]) -> Made
+pub fn try_new_from_values(values: &[i32]) -> Result<BitDomain, Refusal>
     ensures { result ≡ try_from_values_of values.now }
 {
-    if values.len() == 0 {
-        return Made::Domain(bare(0, -1));
+    if values.is_empty() {
+        return Ok(nothing());
     }
     let min = ends::smallest(values);
     let max = ends::largest(values);
     if mask::OFFSETS < offset::span(min, max) {
-        return Made::Refused(Refusal::TooWide);
+        return Err(Refusal::TooWide);
     }
-    Made::Domain(gathered(values, min, max))
+    Ok(gathered(values, min, max))
 }
 
 pub fn new_from_values(values: &[i32]) -> BitDomain
     ensures { result ≡ from_values_of values.now }
 {
-    match try_new_from_values(values) {
-        Made::Domain(d) => d,
-        Made::Refused(_) => bare(1, 0),
-    }
+    try_new_from_values(values).unwrap_or(domain::new_invalid())
 }

@@ -1,34 +1,12 @@
--- The first of some values, as a loop finds it, and that it stands before all others. Assumes nothing.
-use Rattle.std.specs.Prelude.{◌≡◌, refl, Bool, true, false, cond, List, [], ◌∷◌, ◌⊎◌, ℕ, ◌+◌, ◌≤◌, ◌<◌, T, ℤ, pos, length, get_or, drop}
+-- The first of some values stands before all others, and is one of them. Assumes nothing.
+use Rattle.std.specs.Prelude.{◌≡◌, refl, Bool, true, false, cond, List, [], ◌∷◌, ◌⊎◌, T, ℤ}
 use Rattle.std.specs.Int.Signed.{lt_z, le_z}
-use Rattle.std.specs.Int.{w32}
-use Rattle.std.proofs.Common.{subst, sym, ap, ◌∙◌, inl, inr, ⊎_elim, add-one, arith, drop_of_length-le, drop-cons, SFits, to_z, of_z, to_z-of_z}
+use Rattle.std.proofs.Common.{subst, sym, inl, inr, ⊎_elim}
 use Rattle.rules.specs.Sets.{has}
 use Rattle.rules.proofs.SetLaws.{has-cons, has-head, has-tail}
 use Rattle.rules.proofs.InOrder.{most-refl, most-trans, less-le, not-less}
 use Rattle.rules.proofs.Tests.{true-is}
-use Rattle.ends.specs.Ends.{first, first_of, smallest_of, largest_of}
-
--- ---- the first of some values, one value at a time: as a loop takes it, which reads values back from bits
-
-module _ (before : ℤ → ℤ → Bool) (l : List ℤ) where
-  pub first-start : 0 < length l → SFits w32 (get_or l 0 (pos 0)) → first before (to_z w32 (of_z w32 (get_or l 0 (pos 0)))) (drop 1 l) ≡ first_of before l
-  first-start h f = ap (λ (z : ℤ). first before z (drop 1 l)) (to_z-of_z f) ∙ go l h
-    where
-      go : (l : List ℤ) → 0 < length l → first before (get_or l 0 (pos 0)) (drop 1 l) ≡ first_of before l
-      go [] h = absurd (omega arith)
-      go (x ∷ l) h = refl
-
-  pub first_more : (b r : ℤ) (i : ℕ) → i < length l → SFits w32 (get_or l i (pos 0)) → SFits w32 r
-      → r ≡ cond (before (to_z w32 (of_z w32 (get_or l i (pos 0)))) b) (to_z w32 (of_z w32 (get_or l i (pos 0)))) b
-      → first before (to_z w32 (of_z w32 r)) (drop (i + 1) l) ≡ first before b (drop i l)
-  first_more b r i h f g e =
-      let x = get_or l i (pos 0) in
-      ap (λ (z : ℤ). first before z (drop (i + 1) l)) (to_z-of_z g ∙ e ∙ (λ j. cond (before (to_z-of_z f j) b) (to_z-of_z f j) b))
-      ∙ ap (λ (n : ℕ). first before (cond (before x b) x b) (drop n l)) (add-one i) ∙ ap (first before b) (sym (drop-cons l i (pos 0) h))
-
-  pub first-end : (b : ℤ) (i : ℕ) → length l ≤ i → first before b (drop i l) ≡ b
-  first-end b i h = ap (first before b) (drop_of_length-le l {i = i} h)
+use Rattle.ends.specs.Ends.{first, smallest_of, largest_of}
 
 -- an order, and the test by which one value stands before another
 record Order (before upto : ℤ → ℤ → Bool) : Type 0 where

@@ -6,106 +6,71 @@
 
 ghost use Rattle.std.specs.Prelude.{◌<◌};
 
+use batch::Batched;
 use board::Board;
 use closing::{Closing, Kind};
-use domain::Counted;
 use rules::{Value, Variable};
+use std::array;
+
+fn id(i: usize) -> Variable
+    requires { i < 64 }
+{
+    Variable(i as u32 * 7919)
+}
 
 // 64 destinations over 101 chutes.
 fn board() -> Board {
     let mut b = board_enter::new();
-    let mut i: u32 = 0;
-    while i < 64 {
-        let r = board_enter::add_variable(b, Variable(i * 7919), Value(0), Value(100));
-        let next = r.board;
-        b = next;
-        i += 1;
+    for i in 0..64 {
+        b = board_enter::add_variable(b, id(i), Value(0), Value(100)).board;
     }
     b
 }
 
-fn kind(i: u32) -> Kind {
-    let k = i % 4;
-    if k == 1 {
-        return Kind::Below;
+fn kind(i: usize) -> Kind {
+    match i % 4 {
+        1 => Kind::Below,
+        2 => Kind::Above,
+        _ => Kind::Remove,
     }
-    if k == 2 {
-        return Kind::Above;
-    }
-    Kind::Remove
 }
 
-fn chute(i: u32) -> Value
-    requires { i < 256 }
-{
-    Value(offset::value(0, (i * 29 % 100) as usize))
-}
-
-fn closing(i: u32) -> Closing
+fn closing(i: usize) -> Closing
     requires { i < 256 }
 {
     Closing {
         kind: kind(i),
-        id: Variable((i * 37 % 64) * 7919),
-        value: chute(i),
+        id: id(i * 37 % 64),
+        value: Value((i * 29 % 100) as i32),
     }
-}
-
-fn blank() -> [Closing; 256] {
-    let c = Closing {
-        kind: Kind::Remove,
-        id: Variable(0),
-        value: Value(0),
-    };
-    [c; 256]
 }
 
 fn run() -> [Closing; 256] {
-    let mut cs = blank();
-    let mut i = 0;
-    while i < 256 {
-        let c = closing(i as u32);
-        cs[i] = c;
-        i += 1;
-    }
-    cs
+    array::from_fn(closing)
 }
 
-fn counted(c: Counted) -> u64 {
-    match c {
-        Counted::Count(n) => n as u64,
-        Counted::Refused(_) => 65536,
+// What a refusal adds to a sum.
+const REFUSED: u64 = 65536;
+
+fn in_turn<F: Fn(Board) -> Batched>(turns: usize, turn: F) -> u64
+    requires { F.IsAlwaysCallable turn }
+{
+    let mut b = board();
+    let mut sum: u64 = 0;
+    for _ in 0..turns {
+        let r = turn(b);
+        b = r.board;
+        sum ^= r.answer.map_or(REFUSED, |n| n as u64);
     }
+    sum
 }
 
 pub fn bench_many(turns: usize) -> u64 {
-    let mut b = board();
     let cs = run();
-    let mut sum = 0;
-    let mut k = 0;
-    while k < turns {
-        let r = batch::close_many(b, cs, 256);
-        let a = r.answer;
-        sum = sum ^ counted(a);
-        let next = r.board;
-        b = next;
-        k += 1;
-    }
-    sum
+    in_turn(turns, |b| batch::close_many(b, cs, 256))
 }
 
 pub fn bench_lent(turns: usize) -> u64 {
-    let mut b = board();
     let cs = run();
-    let mut sum = 0;
-    let mut k = 0;
-    while k < turns {
-        let r = batch_lent::close_run(b, cs);
-        let a = r.answer;
-        sum = sum ^ counted(a);
-        let next = r.board;
-        b = next;
-        k += 1;
-    }
-    sum
+    in_turn(turns, |b| batch_lent::close_run(b, cs))
 }

@@ -10,12 +10,13 @@ ghost use Rattle.std.specs.Prelude.{◌≡◌, ◌+◌, ◌<◌, ◌≤◌, leng
 
 use batch::Batched;
 use board::{Board, Closed};
-use board_probe_parts::show::{left, put_rows};
+use board_probe_parts::show::{left, put_masks};
 use closing::{Closing, Kind};
-use domain::{BitDomain, Changed, Counted, Narrowed, Outcome, Told};
+use domain::{BitDomain, Changed, Narrowed};
 use probe_parts::regs::Register;
-use probe_parts::{regs, wire};
-use rules::{Value, Variable};
+use probe_parts::wire;
+use rules::{Refusal, Value, Variable};
+use std::array;
 
 // The bytes of a frame, of which all are read.
 const FRAME: usize = 8192;
@@ -28,30 +29,17 @@ const CLOSINGS: usize = 1040;
 
 // ---- removals: four words in, four out
 
-fn told(t: Told) -> u64 {
-    match t {
-        Told::Is(yes) => {
-            if yes {
-                return 1;
-            }
-            0
-        }
-        Told::Refused(r) => 256 + r.number() as u64,
-    }
+// A refusal stands above the answers that its call has otherwise.
+fn told(answer: Result<bool, Refusal>) -> u64 {
+    answer.map_or_else(|r| 256 + r.number() as u64, u64::from)
 }
 
-fn outcome(o: Outcome) -> u64 {
-    match o {
-        Outcome::Done => 2,
-        Outcome::Refused(r) => 256 + r.number() as u64,
-    }
+fn outcome(answer: Result<(), Refusal>) -> u64 {
+    answer.map_or_else(|r| 256 + r.number() as u64, |_| 2)
 }
 
-fn counted(c: Counted) -> u64 {
-    match c {
-        Counted::Count(n) => n as u64,
-        Counted::Refused(r) => 65536 + r.number() as u64,
-    }
+fn counted(answer: Result<usize, Refusal>) -> u64 {
+    answer.map_or_else(|r| 65536 + r.number() as u64, |n| n as u64)
 }
 
 // What a call left behind the reference, and its answer as a number.
@@ -61,54 +49,40 @@ struct After {
     answer: u64,
 }
 
-fn changed(op: u64, d: BitDomain, v: Value) -> Changed {
-    if op == 0 {
-        return domain_in_place::remove_here(d, v);
-    }
-    domain_in_place::insert_here(d, v)
-}
-
-fn narrowed(op: u64, d: BitDomain, v: Value) -> Narrowed {
-    match op {
-        2 => domain_in_place::remove_all_but_here(d, v),
-        3 => domain_in_place::remove_below_here(d, v),
-        _ => domain_in_place::remove_above_here(d, v),
-    }
-}
-
-fn after_change(c: Changed) -> After {
-    let d = c.domain;
-    let t = c.answer;
+fn changed(c: Changed) -> After {
     After {
-        left: regs::of_domain(d),
-        answer: told(t),
+        left: c.domain.into(),
+        answer: told(c.answer),
     }
 }
 
-fn after_cut(n: Narrowed) -> After {
-    let d = n.domain;
-    let o = n.answer;
+fn narrowed(n: Narrowed) -> After {
     After {
-        left: regs::of_domain(d),
-        answer: outcome(o),
+        left: n.domain.into(),
+        answer: outcome(n.answer),
     }
 }
 
+// The removals by their numbers in a frame.
 fn called(op: u64, d: BitDomain, v: Value) -> After {
-    if op < 2 {
-        return after_change(changed(op, d, v));
+    match op {
+        0 => changed(domain_in_place::remove_here(d, v)),
+        1 => changed(domain_in_place::insert_here(d, v)),
+        2 => narrowed(domain_in_place::remove_all_but_here(d, v)),
+        3 => narrowed(domain_in_place::remove_below_here(d, v)),
+        _ => narrowed(domain_in_place::remove_above_here(d, v)),
     }
-    after_cut(narrowed(op, d, v))
 }
 
-fn register_at(script: &[u8], at: usize) -> Register
+fn domain_at(script: &[u8], at: usize) -> BitDomain
     requires { at + 24 ≤ length script.now }
 {
-    Register {
+    let r = Register {
         lo: wire::word(script, at),
         hi: wire::word(script, at + 8),
         bounds: wire::word(script, at + 16),
-    }
+    };
+    r.into()
 }
 
 fn step(script: &[u8], at: usize, out: &mut [u8], to: usize)
@@ -116,8 +90,8 @@ fn step(script: &[u8], at: usize, out: &mut [u8], to: usize)
     ensures { length out.new ≡ length out.old }
 {
     let head = wire::word(script, at);
-    let d = regs::domain(register_at(script, at + 8));
-    let r = called(head % 256, d, Value(wire::signed(head / 4294967296)));
+    let d = domain_at(script, at + 8);
+    let r = called(head % 256, d, Value(wire::signed(head >> 32)));
     wire::put_words(&[r.answer, r.left.lo, r.left.hi, r.left.bounds], out, to);
 }
 
@@ -125,18 +99,15 @@ fn removals(script: &[u8], out: &mut [u8])
     requires { (8192 ≤ length script.now) × (8192 ≤ length out.old) }
     ensures { length out.new ≡ length out.old }
 {
-    let mut i = 0;
-    while i < REMOVALS {
+    for i in 0..REMOVALS {
         step(script, 32 + 32 * i, out, 32 * i);
-        i += 1;
     }
 }
 
 // ---- a batch: its board, and its closings
 
 fn kind(w: u64) -> Kind {
-    let k = w % 4;
-    match k {
+    match w % 4 {
         0 => Kind::Remove,
         1 => Kind::Assign,
         2 => Kind::Below,
@@ -148,35 +119,17 @@ fn closing(script: &[u8], at: usize) -> Closing
     requires { at + 16 ≤ length script.now }
 {
     let head = wire::word(script, at);
-    let value = wire::signed(wire::word(script, at + 8));
     Closing {
         kind: kind(head),
-        id: Variable(wire::half(head / 4294967296)),
-        value: Value(value),
+        id: Variable(wire::half(head >> 32)),
+        value: Value(wire::signed(wire::word(script, at + 8))),
     }
-}
-
-// Closings to be replaced by those of the frame.
-fn blank() -> [Closing; 256] {
-    let c = Closing {
-        kind: Kind::Remove,
-        id: Variable(0),
-        value: Value(0),
-    };
-    [c; 256]
 }
 
 fn run(script: &[u8]) -> [Closing; 256]
     requires { 8192 ≤ length script.now }
 {
-    let mut cs = blank();
-    let mut i = 0;
-    while i < 256 {
-        let c = closing(script, CLOSINGS + 16 * i);
-        cs[i] = c;
-        i += 1;
-    }
-    cs
+    array::from_fn(|i| closing(script, CLOSINGS + 16 * i))
 }
 
 // A destination more: its id, and the ends of its chutes.
@@ -186,19 +139,16 @@ fn registered(script: &[u8], at: usize, b: Board) -> Board
     let id = wire::half(wire::word(script, at));
     let ends = wire::word(script, at + 8);
     let first = Value(wire::signed(ends));
-    let last = Value(wire::signed(ends / 4294967296));
-    let r = board_enter::add_variable(b, Variable(id), first, last);
-    r.board
+    let last = Value(wire::signed(ends >> 32));
+    board_enter::add_variable(b, Variable(id), first, last).board
 }
 
 fn board(script: &[u8], count: usize) -> Board
     requires { (8192 ≤ length script.now) × (count < 65) }
 {
     let mut b = board_enter::new();
-    let mut i = 0;
-    while i < count {
+    for i in 0..count {
         b = registered(script, 16 + 16 * i, b);
-        i += 1;
     }
     b
 }
@@ -208,38 +158,14 @@ fn show(answer: u64, b: Board, out: &mut [u8], to: usize)
     requires { to + 2064 ≤ length out.old }
     ensures { length out.new ≡ length out.old }
 {
-    let rows = b.rows;
     let whole = left(b);
-    let mut flag = 0;
-    if b.changed {
-        flag = 1;
-    }
-    wire::put_words(&[answer, flag], out, to);
-    put_rows(rows, false, out, to + 16);
+    wire::put_words(&[answer, u64::from(b.changed)], out, to);
+    put_masks(b.rows, out, to + 16);
     wire::put_words(&[whole.lo, whole.hi, whole.bounds], out, to + 1040);
 }
 
-fn show_batch(r: Batched, out: &mut [u8], to: usize)
-    requires { to + 2064 ≤ length out.old }
-    ensures { length out.new ≡ length out.old }
-{
-    let a = r.answer;
-    let b = r.board;
-    show(counted(a), b, out, to);
-}
-
-fn show_closed(r: Closed, out: &mut [u8], to: usize)
-    requires { to + 2064 ≤ length out.old }
-    ensures { length out.new ≡ length out.old }
-{
-    let a = r.answer;
-    let b = r.board;
-    show(told(a), b, out, to);
-}
-
 fn closed_here(b: Board, c: Closing) -> Closed {
-    let kind = c.kind;
-    match kind {
+    match c.kind {
         Kind::Remove => board_in_place::remove_value_here(b, c.id, c.value),
         Kind::Assign => board_in_place::assign_variable_here(b, c.id, c.value),
         Kind::Below => board_in_place::remove_below_here(b, c.id, c.value),
@@ -249,8 +175,7 @@ fn closed_here(b: Board, c: Closing) -> Closed {
 
 // The board's flag is cleared first, and its count set past the limit where the frame asks for a board that isn't well formed.
 fn ready(b: Board, broken: bool) -> Board {
-    let r = board_close::reset_changed_flag(b);
-    let mut next = r.board;
+    let mut next = board_close::reset_changed_flag(b).board;
     if broken {
         next.count = 65;
     }
@@ -271,7 +196,7 @@ fn asked(script: &[u8]) -> Board
 fn many(script: &[u8], b: Board) -> Batched
     requires { 8192 ≤ length script.now }
 {
-    let n = wire::half(wire::word(script, 8) / 4294967296) as usize;
+    let n = (wire::word(script, 8) >> 32) as usize;
     batch::close_many(b, run(script), n)
 }
 
@@ -287,8 +212,10 @@ fn show_both(script: &[u8], b: Board, out: &mut [u8])
     requires { (8192 ≤ length script.now) × (8192 ≤ length out.old) }
     ensures { length out.new ≡ length out.old }
 {
-    show_batch(many(script, b), out, 0);
-    show_batch(batch_lent::close_run(b, run(script)), out, 1064);
+    let by_value = many(script, b);
+    show(counted(by_value.answer), by_value.board, out, 0);
+    let lent = batch_lent::close_run(b, run(script));
+    show(counted(lent.answer), lent.board, out, 1064);
 }
 
 fn batches(script: &[u8], out: &mut [u8])
@@ -297,17 +224,15 @@ fn batches(script: &[u8], out: &mut [u8])
 {
     let b = asked(script);
     show_both(script, b, out);
-    show_closed(first(script, b), out, 2128);
+    let alone = first(script, b);
+    show(told(alone.answer), alone.board, out, 2128);
 }
 
 // The answers to one frame: 6,400 bytes to removals, 3,192 to a batch. Where there is less room than a frame, none.
 pub fn probe_hand(script: &[u8], out: &mut [u8]) -> usize
     ensures { result ≤ length out.new }
 {
-    if script.len() < FRAME {
-        return 0;
-    }
-    if out.len() < FRAME {
+    if script.len() < FRAME || out.len() < FRAME {
         return 0;
     }
     if wire::word(script, 0) == 0 {

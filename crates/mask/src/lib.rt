@@ -16,7 +16,7 @@ ghost use Rattle.mask.specs.Ends.{ends_by};
 // How many offsets there is room for.
 pub const OFFSETS: usize = 128;
 
-#[derive(Clone, Copy)]
+#[derive(Clone, Copy, PartialEq, Eq)]
 pub struct Mask {
     pub lo: u64,
     pub hi: u64,
@@ -203,7 +203,7 @@ pub fn without(m: Mask, k: usize) -> Mask
 pub fn same(m: Mask, n: Mask) -> bool
     ensures { result ≡ eqb (val m) (val n) }
 {
-    if m.lo == n.lo { m.hi == n.hi } else { false }
+    m == n
 }
 
 // How many members.

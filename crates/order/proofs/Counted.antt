@@ -4,6 +4,10 @@ use Rattle.std.proofs.Common.{◌∙◌, ⊎_elim, eq-or-lt_of_le, add-one, arit
 use lib.Seq.{get_or-set_same, get_or-set_other}
 use Rattle.order.specs.Order.{Inverse, counted}
 
+pub counted_none : (xs : List ℕ) → xs ≡ counted 0 xs
+unfolding counted
+counted_none xs = refl
+
 pub length-counted : (n : ℕ) (xs : List ℕ) → length (counted n xs) ≡ length xs
 unfolding counted
 length-counted zero xs = refl

@@ -1,6 +1,6 @@
 -- Two orderings are inverse if each number below n leads back to itself through the first: n numbers below n that all differ leave none out.
 -- Assumes nothing.
-use Rattle.std.specs.Prelude.{◌≡◌, refl, ◌≢◌, Bool, true, false, List, ℕ, zero, suc, ◌+◌, ◌-◌, ◌<◌, ltb, get_or}
+use Rattle.std.specs.Prelude.{◌≡◌, refl, ◌≢◌, Bool, true, false, List, ℕ, zero, suc, ◌+◌, ◌-◌, ◌≤◌, ◌<◌, ltb, get_or}
 use Rattle.std.proofs.Common.{sym, ap, ◌∙◌, ⊎_elim, eq-or-lt_of_le, arith, ltb-true, ltb-false}
 use Rattle.std.proofs.Math.Decide.{ℕ_discrete}
 use Rattle.order.specs.Order.{Inverse, inverse_b}
@@ -84,9 +84,5 @@ module _ (ind val : List ℕ) (n : ℕ) (lt : (k : ℕ) → k < n → get_or ind
 abbrev pub Back : List ℕ → List ℕ → ℕ → ℕ → Type 0
 Back ind val n i = (k : ℕ) → k < i → (get_or ind k 0 < n) × (get_or val (get_or ind k 0) 0 ≡ k)
 
-pub back_more : (ind val : List ℕ) (n i : ℕ) → Back ind val n i → get_or ind i 0 < n → get_or val (get_or ind i 0) 0 ≡ i → Back ind val n (i + 1)
-back_more ind val n i b l e k h =
-    ⊎_elim (λ (q : k ≡ i). rw q (l, e)) (λ (m : k < i). b k m) (eq-or-lt_of_le (omega arith))
-
-pub all_back : (ind val : List ℕ) (n : ℕ) → Back ind val n n → inverse_b ind val n ≡ true
-all_back ind val n b = of-inverse ind val n (from-one-way ind val n (λ k h. (b k h).0) (λ k h. (b k h).1))
+pub all_back : (ind val : List ℕ) (n i : ℕ) → n ≤ i → Back ind val n i → inverse_b ind val n ≡ true
+all_back ind val n i h b = of-inverse ind val n (from-one-way ind val n (λ k l. (b k (omega arith)).0) (λ k l. (b k (omega arith)).1))

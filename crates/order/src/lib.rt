@@ -12,11 +12,9 @@ pub fn fill(ind: &mut [u32], val: &mut [u32], n: u32)
     requires { (n ≤ length ind.old) × (n ≤ length val.old) }
     ensures { (ind.new ≡ counted n ind.old) × (val.new ≡ counted n val.old) }
 {
-    let mut i = 0u32;
-    while i < n {
+    for i in 0..n {
         ind[i as usize] = i;
         val[i as usize] = i;
-        i += 1;
     }
 }
 
@@ -46,16 +44,11 @@ pub fn is_inverse(ind: &[u32], val: &[u32], n: u32) -> bool
     requires { (n ≤ length ind.now) × (n ≤ length val.now) }
     ensures { result ≡ inverse_b ind.now val.now n }
 {
-    let mut i = 0u32;
-    while i < n {
+    for i in 0..n {
         let a = ind[i as usize];
-        if a >= n {
+        if a >= n || val[a as usize] != i {
             return false;
         }
-        if val[a as usize] != i {
-            return false;
-        }
-        i += 1;
     }
     true
 }

@@ -1,6 +1,8 @@
 -- Every answer of an exported call of the board has room in its code, so that `told_by` reads it back: a list that is looked at has at most 64 ids
 -- and a batch at most 256 closings, so no place and no count comes near 2 ^ 56. Assumes nothing.
-use Rattle.std.specs.Prelude.{◌≡◌, refl, Bool, true, false, not, cond, List, [], ◌∷◌, ◌++◌, map, ℕ, zero, suc, ◌+◌, ◌≤◌, ◌<◌, ◌^◌, eqb, leb, ltb, ℤ, length, drop}
+use Rattle.std.specs.Prelude.{◌≡◌, refl, Bool, true, false, not, cond, List, [], ◌∷◌, ◌++◌, map, ℕ, zero, suc, ◌+◌, ◌≤◌, ◌<◌, ◌^◌, eqb, leb, ltb, ℤ, length, drop, Result}
+use Rattle.std.specs.declared.result.Result.TheVariants.{Ok, Err}
+use Rattle.rules.specs.declared.Value.{Value}
 use Rattle.std.specs.Int.{w32}
 use Rattle.std.proofs.Common.{ap, arith, SFits, leb-true, ltb-true}
 use Rattle.rules.specs.Board as rules
@@ -12,9 +14,6 @@ use Rattle.rules.specs.declared.Refusal.TheVariants.{Broken, Full, TrialOpen, To
 use Rattle.domain.specs.Set.{set_of, well}
 use Rattle.domain.specs.Calls.{invalid, at, first_of, last_of, only_of, new_of, size_of, is_fixed_of, is_empty_of, fixed_value_of, min_of, max_of}
 use Rattle.domain.specs.declared.BitDomain.{BitDomain}
-use Rattle.domain.specs.declared.Told.TheVariants as told
-use Rattle.domain.specs.declared.Counted.TheVariants as counted
-use Rattle.domain.specs.declared.Found.TheVariants as found
 use Rattle.domain_values.specs.Calls.{from_values_of, Written, in_front, to_vec_of}
 use Rattle.domain_values.specs.Calls as written-values
 use Rattle.closing.specs.declared.Closing.{Closing}
@@ -32,8 +31,6 @@ use Rattle.board_ask.specs.Answers.{count_of, chute_of}
 use Rattle.board_ask.specs.Domains.{domain_of}
 use Rattle.board_ask.specs.Names.{names_of, Filled, filled, ids_into_of}
 use Rattle.board_ask.specs.Questions.{domain_size_of, is_assigned_of, assigned_value_of, is_inconsistent_of, both, get_bounds_of, get_into_of}
-use Rattle.board_ask.specs.declared.Bounds.{Bounds}
-use Rattle.board_ask.specs.declared.Bounds.TheVariants as bounds
 use Rattle.board_ask.specs.Ready.{assigned, judge, ready_of}
 use Rattle.board_spread.specs.Spread.{pair_of, pruned_by, pruned_of, handed, refused, spread_of}
 use Rattle.trial.specs.Marks.{mark_of, restore_of, keep_of, marked, restored, released}
@@ -82,7 +79,7 @@ trying true true c b r l = done-of
 trying true false c b r l = refused-of r l
 trying false y c b r l = broken-of
 
-telling : (w v y : Bool) → Of yes_no (told_of (cond w (cond v (told.Is y) (told.Refused Broken)) (told.Refused Broken)))
+telling : (w v y : Bool) → Of yes_no (told_of (cond w (cond v (Ok y) (Err Broken)) (Err Broken)))
 telling true true y = said_of y
 telling true false y = broken-of
 telling false v y = broken-of
@@ -165,7 +162,7 @@ pub changed-of : (b : Board) → Of yes_no (whether_changed b)
 unfolding changed_of
 changed-of b = go (well_board b)
   where
-    go : (w : Bool) → Of yes_no (told_of (cond w (told.Is b.changed) (told.Refused Broken)))
+    go : (w : Bool) → Of yes_no (told_of (cond w (Ok b.changed) (Err Broken)))
     go true = said_of b.changed
     go false = broken-of
 
@@ -175,7 +172,7 @@ pub ready_of_lem : (is : List ℕ) (b : Board) → Of yes_no (whether_ready is b
 unfolding ready_of
 ready_of_lem is b = go (well_board b) (rules.listing is (view b).now) (listing-near is (view b).now) (every (λ i. assigned (domain_of b i)) is)
   where
-    go : (w : Bool) (v : rules.Verdict) → verdict_place v ≤ 64 → (y : Bool) → Of yes_no (told_of (cond w (judge v y) (told.Refused Broken)))
+    go : (w : Bool) (v : rules.Verdict) → verdict_place v ≤ 64 → (y : Bool) → Of yes_no (told_of (cond w (judge v y) (Err Broken)))
     go true rules.accepted near y = said_of y
     go true (rules.refused r) near y = refused-of r (let z : place_of r ≤ 64 = near in omega arith)
     go false v near y = broken-of
@@ -201,7 +198,7 @@ sizing-of id b = go (well_board b) (well (domain_of b id)) refl
     d : BitDomain
     d = domain_of b id
 
-    go : (w v : Bool) → well d ≡ v → Of number (count_of (cond w (cond v (counted.Count (length (set_of d))) (counted.Refused Broken)) (counted.Refused Broken)))
+    go : (w v : Bool) → well d ≡ v → Of number (count_of (cond w (cond v (Ok (length (set_of d))) (Err Broken)) (Err Broken)))
     go true true e = count-of {n = length (set_of d)} (omega (arith, few-held d e))
     go true false e = broken-of
     go false v e = broken-of
@@ -211,7 +208,7 @@ pub batching-of : (cs : List Closing) → length cs ≤ 256 → (b : Board) → 
 unfolding batch_of
 batching-of cs h b = go (well_board b)
   where
-    go : (w : Bool) → Of number (count_of (cond {A = Batched} w (record { board = closed_all cs b; answer = counted.Count (yeses cs b) }) (record { board = b; answer = counted.Refused Broken })).answer)
+    go : (w : Bool) → Of number (count_of (cond {A = Batched} w (record { board = closed_all cs b; answer = Ok (yeses cs b) }) (record { board = b; answer = Err Broken })).answer)
     go true = count-of {n = yeses cs b} (omega (arith, yeses-most cs b))
     go false = broken-of
 
@@ -222,7 +219,7 @@ values_of id cells b = go (well_board b) (well d) refl (ltb (length cells) (leng
     d : BitDomain
     d = domain_of b id
 
-    go : (w v : Bool) → well d ≡ v → (t : Bool) → Of number (count_of (cond {A = Written} w (cond v (cond t (written-values.written (counted.Refused NoRoom) cells) (in_front (set_of d) cells)) (written-values.written (counted.Refused Broken) cells)) (written-values.written (counted.Refused Broken) cells)).answer)
+    go : (w v : Bool) → well d ≡ v → (t : Bool) → Of number (count_of (cond {A = Written} w (cond v (cond t (written-values.written (Err NoRoom) cells) (in_front (set_of d) cells)) (written-values.written (Err Broken) cells)) (written-values.written (Err Broken) cells)).answer)
     go true true e true = refused-of NoRoom (omega arith)
     go true true e false = count-of {n = length (set_of d)} (omega (arith, few-held d e))
     go true false e t = broken-of
@@ -239,7 +236,7 @@ ids-of cells b = go (well_board b) refl (ltb (length cells) (length names))
     names : List ℕ
     names = names_of (id_at b.rows) 0 b.count
 
-    go : (w : Bool) → well_board b ≡ w → (t : Bool) → Of number (count_of (cond {A = Filled} w (cond t (filled (counted.Refused NoRoom) cells) (filled (counted.Count (length names)) (names ++ drop (length names) cells))) (filled (counted.Refused Broken) cells)).answer)
+    go : (w : Bool) → well_board b ≡ w → (t : Bool) → Of number (count_of (cond {A = Filled} w (cond t (filled (Err NoRoom) cells) (filled (Ok (length names)) (names ++ drop (length names) cells))) (filled (Err Broken) cells)).answer)
     go true e true = refused-of NoRoom (omega arith)
     go true e false = count-of {n = length names} (omega (arith, names-length (id_at b.rows) 0 b.count, (well-says b.rows b.count b.saved b.marks e).few-rows))
     go false e t = broken-of
@@ -261,22 +258,22 @@ value_of id b t = go (well_board b) (well d) refl
     d : BitDomain
     d = domain_of b id
 
-    go : (w v : Bool) → well d ≡ v → Of kinds.chute (chute_of (cond w (cond v (only_of (set_of d)) (found.Refused Broken)) (found.Refused Broken)))
+    go : (w v : Bool) → well d ≡ v → Of kinds.chute (chute_of (cond w (cond v (only_of (set_of d)) (Err Broken)) (Err Broken)))
     go true true e = let f = ends-fit b id t in only_of_lem (set_of d) (held_fits d e f.0 f.1)
     go true false e = broken-of
     go false v e = broken-of
 
 -- ---- both ends go into lent cells: a refusal names no place
 
-abbrev pub bounds_place : Bounds → ℕ
-bounds_place (bounds.Refused r) = place_of r
-bounds_place (bounds.Between x y) = 0
+abbrev pub bounds_place : Result (Value × Value) Refusal → ℕ
+bounds_place (Err r) = place_of r
+bounds_place (Ok (x, y)) = 0
 
 pub bounds_of : (id : ℕ) (b : Board) → bounds_place (get_bounds_of b (named id)) ≡ 0
 unfolding get_bounds_of min_of max_of
 bounds_of id b = go (well_board b) (well (domain_of b id)) (set_of (domain_of b id))
   where
-    go : (w v : Bool) (s : Chutes) → bounds_place (cond w (both (cond v (first_of s) (found.Refused Broken)) (cond v (last_of s) (found.Refused Broken))) (bounds.Refused Broken)) ≡ 0
+    go : (w v : Bool) (s : Chutes) → bounds_place (cond w (both (cond v (first_of s) (Err Broken)) (cond v (last_of s) (Err Broken))) (Err Broken)) ≡ 0
     go true true [] = refl
     go true true (x ∷ s) = last s
       where

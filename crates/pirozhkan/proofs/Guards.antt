@@ -12,8 +12,7 @@ use Rattle.board_ask.specs.Ready.{ready_of}
 use Rattle.board_spread.specs.Spread.{spread_of}
 use Rattle.trial.specs.Marks.{mark_of, restore_of, keep_of}
 use Rattle.reply.specs.Told.{coded}
-use Rattle.reply.specs.Through.{left}
-use Rattle.reply.proofs.ThroughLaws.{Guarded}
+use Rattle.reply.specs.Through.{left, Guarded, Refuses}
 use Rattle.pirozhkan.specs.Calls.{ranging, listing, closing, resetting, spreading, marking, restoring, keeping, whether_ready, sizing, whether_assigned, assigned_to, whether_inconsistent, whether_changed, bounds_into, values_into, ids_into}
 
 -- ---- calls that change the board
@@ -51,9 +50,6 @@ unfolding keep_of
 keeping-guarded b e = rw e
 
 -- ---- questions
-
-abbrev Refuses : (Board → rules.Answer) → Type 0
-Refuses f = (b : Board) → well_board b ≡ false → f b ≡ rules.denied Broken
 
 pub ready-refuses : (is : List ℕ) → Refuses (whether_ready is)
 unfolding ready_of

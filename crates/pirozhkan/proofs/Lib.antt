@@ -1,5 +1,4 @@
 -- Laws that belong to no one function.
 pub mod Guards
-pub mod EndsInto
 pub mod Batching
 pub mod Codes

@@ -1,5 +1,7 @@
 -- The by-value calls that the exported ones make on the board that they read, by their numbers and lists.
-use Rattle.std.specs.Prelude.{true, cond, List, ℕ, ltb, ℤ, length, set}
+use Rattle.std.specs.Prelude.{true, cond, List, ℕ, ltb, ℤ, length, set, Result}
+use Rattle.std.specs.declared.result.Result.TheVariants.{Ok, Err}
+use Rattle.rules.specs.declared.Refusal.{Refusal}
 use Rattle.rules.specs.Board as rules
 use Rattle.rules.specs.declared.Refusal.TheVariants.{NoRoom}
 use Rattle.rules.specs.declared.Value.{Value}
@@ -14,8 +16,6 @@ use Rattle.board_ask.specs.Answers.{count_of, chute_of}
 use Rattle.board_ask.specs.Names.{Filled, ids_into_of}
 use Rattle.board_ask.specs.Questions.{domain_size_of, is_assigned_of, assigned_value_of, is_inconsistent_of, get_bounds_of, get_into_of}
 use Rattle.board_ask.specs.Ready.{ready_of}
-use Rattle.board_ask.specs.declared.Bounds.{Bounds}
-use Rattle.board_ask.specs.declared.Bounds.TheVariants as bounds
 use Rattle.board_spread.specs.Spread.{spread_of}
 use Rattle.trial.specs.Marks.{mark_of, restore_of, keep_of}
 use Rattle.reply.specs.Told.{coded}
@@ -76,9 +76,9 @@ whether_changed b = told_of (changed_of b)
 -- ---- questions that are answered in lent cells
 
 -- both ends in the first two cells; nothing is written where there are none, or not two cells
-abbrev pub ends_into : Bounds → List ℤ → Left (List ℤ)
-ends_into (bounds.Refused r) cells = left (coded (rules.denied r)) cells
-ends_into (bounds.Between x y) cells =
+abbrev pub ends_into : Result (Value × Value) Refusal → List ℤ → Left (List ℤ)
+ends_into (Err r) cells = left (coded (rules.denied r)) cells
+ends_into (Ok (x, y)) cells =
     cond (ltb (length cells) 2) (left (coded (rules.denied NoRoom)) cells) (left (coded (rules.ends x.0 y.0)) (set (set cells 0 x.0) 1 y.0))
 
 abbrev pub bounds_into : ℕ → List ℤ → Board → Left (List ℤ)

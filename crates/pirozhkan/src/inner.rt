@@ -1,17 +1,32 @@
-// What the calls that hand a board back end with.
-ghost use Rattle.std.specs.Prelude.{◌≡◌, List, ℕ, ◌≤◌, length};
-ghost use Rattle.state.specs.Layout.{size};
-ghost use Rattle.reply.specs.Through.{left, written, settled};
+// What the exported calls share: the words are read as a board, a call is made, and the board that it hands back is written.
+ghost use Rattle.std.specs.Prelude.{List, ℕ};
+ghost use Rattle.reply.specs.Through.{left, settled};
+ghost use Rattle.pirozhkan.specs.Shared.{Asks, Makes};
 
-use board::Settled;
+use board::{Board, Settled};
 
-// The board that a call handed back is written, and its answer told.
-pub fn settle(ws: &mut [u64], s: Settled) -> u64
-    requires { size ≤ length ws.old }
-    ensures { left {C = List ℕ} result ws.new ≡ written ws.old (settled s) }
+// A question of the board that the words stand for.
+pub fn ask<F: FnOnce(Board) -> u64>(ws: &[u64], question: F) -> u64
+    requires { F.IsAlwaysCallable question }
+    ensures { Asks (F.post question) ws.now result }
 {
-    let b = s.board;
-    let answer = s.answer;
-    state::write(b, ws);
-    reply::outcome(answer)
+    match reply::judge(ws) {
+        Err(why) => reply::refusal(why),
+        Ok(()) => question(state::read(ws)),
+    }
+}
+
+// A call that hands a board back: it is written, and the answer told.
+pub fn settle<F: FnOnce(Board) -> Settled>(ws: &mut [u64], call: F) -> u64
+    requires { F.IsAlwaysCallable call }
+    ensures { Makes settled (F.post call) ws.old (left {C = List ℕ} result ws.new) }
+{
+    match reply::judge(ws) {
+        Err(why) => reply::refusal(why),
+        Ok(()) => {
+            let after = call(state::read(ws));
+            state::write(after.board, ws);
+            reply::outcome(after.answer)
+        }
+    }
 }

@@ -5,14 +5,14 @@ ghost use Rattle.reply.specs.Through.{left, through, begun};
 ghost use Rattle.pirozhkan.specs.Calls.{ranging, listing};
 
 use super::inner;
-use rules::{Value, Variable};
+use rules::{Refusal, Value, Variable};
 
 // Whatever the words were.
 pub fn pirozhkan_new(ws: &mut [u64]) -> u64
     ensures { left {C = List ℕ} result ws.new ≡ begun blank ws.old }
 {
     if ws.len() < state::WORDS {
-        return 14;
+        return reply::refusal(Refusal::NoRoom);
     }
     state::write(board_enter::new(), ws);
     0
@@ -21,27 +21,17 @@ pub fn pirozhkan_new(ws: &mut [u64]) -> u64
 pub fn pirozhkan_add_variable(ws: &mut [u64], id: u32, min: i32, max: i32) -> u64
     ensures { left {C = List ℕ} result ws.new ≡ through (ranging id min max) ws.old }
 {
-    let why = reply::judge(ws);
-    if why != 0 {
-        return why;
-    }
-    let b = state::read(ws);
     inner::settle(
         ws,
-        board_enter::add_variable(b, Variable(id), Value(min), Value(max)),
+        |b| board_enter::add_variable(b, Variable(id), Value(min), Value(max)),
     )
 }
 
 pub fn pirozhkan_add_variable_with_values(ws: &mut [u64], id: u32, values: &[i32]) -> u64
     ensures { left {C = List ℕ} result ws.new ≡ through (listing id values.now) ws.old }
 {
-    let why = reply::judge(ws);
-    if why != 0 {
-        return why;
-    }
-    let b = state::read(ws);
     inner::settle(
         ws,
-        board_enter::add_variable_with_values(b, Variable(id), values),
+        |b| board_enter::add_variable_with_values(b, Variable(id), values),
     )
 }

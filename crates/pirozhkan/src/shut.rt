@@ -12,16 +12,14 @@ use rules::{Value, Variable};
 fn close(ws: &mut [u64], kind: Kind, id: u32, value: i32) -> u64
     ensures { left {C = List ℕ} result ws.new ≡ through (closing (kind_of kind) id value) ws.old }
 {
-    let why = reply::judge(ws);
-    if why != 0 {
-        return why;
+    match reply::judge(ws) {
+        Err(why) => reply::refusal(why),
+        Ok(()) => {
+            let after = board_close::close(state::read(ws), kind, Variable(id), Value(value));
+            state::write(after.board, ws);
+            reply::told(after.answer)
+        }
     }
-    let b = state::read(ws);
-    let did = board_close::close(b, kind, Variable(id), Value(value));
-    let after = did.board;
-    let answer = did.answer;
-    state::write(after, ws);
-    reply::told(answer)
 }
 
 pub fn pirozhkan_remove_value(ws: &mut [u64], id: u32, value: i32) -> u64
@@ -51,10 +49,5 @@ pub fn pirozhkan_remove_above(ws: &mut [u64], id: u32, value: i32) -> u64
 pub fn pirozhkan_reset_changed_flag(ws: &mut [u64]) -> u64
     ensures { left {C = List ℕ} result ws.new ≡ through resetting ws.old }
 {
-    let why = reply::judge(ws);
-    if why != 0 {
-        return why;
-    }
-    let b = state::read(ws);
-    inner::settle(ws, board_close::reset_changed_flag(b))
+    inner::settle(ws, board_close::reset_changed_flag)
 }

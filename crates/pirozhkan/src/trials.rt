@@ -8,32 +8,17 @@ use super::inner;
 pub fn pirozhkan_mark(ws: &mut [u64]) -> u64
     ensures { left {C = List ℕ} result ws.new ≡ through marking ws.old }
 {
-    let why = reply::judge(ws);
-    if why != 0 {
-        return why;
-    }
-    let b = state::read(ws);
-    inner::settle(ws, trial::mark(b))
+    inner::settle(ws, trial::mark)
 }
 
 pub fn pirozhkan_restore(ws: &mut [u64]) -> u64
     ensures { left {C = List ℕ} result ws.new ≡ through restoring ws.old }
 {
-    let why = reply::judge(ws);
-    if why != 0 {
-        return why;
-    }
-    let b = state::read(ws);
-    inner::settle(ws, trial::restore(b))
+    inner::settle(ws, trial::restore)
 }
 
 pub fn pirozhkan_keep(ws: &mut [u64]) -> u64
     ensures { left {C = List ℕ} result ws.new ≡ through keeping ws.old }
 {
-    let why = reply::judge(ws);
-    if why != 0 {
-        return why;
-    }
-    let b = state::read(ws);
-    inner::settle(ws, trial::keep(b))
+    inner::settle(ws, trial::keep)
 }

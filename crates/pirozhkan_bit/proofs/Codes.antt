@@ -1,6 +1,9 @@
 -- Every answer of an exported call has room in its code, so that `told_by` reads it back: no refusal names a place, a domain holds at most 128
 -- values, its text has at most 1,538 bytes, and a value is an i32. Assumes nothing.
-use Rattle.std.specs.Prelude.{◌≡◌, refl, Bool, true, false, not, cond, ◌&&◌, List, [], ◌∷◌, ◌++◌, ℕ, T, leb, ltb, ℤ, length, drop}
+use Rattle.std.specs.Prelude.{◌≡◌, refl, Bool, true, false, not, cond, ◌&&◌, List, [], ◌∷◌, ◌++◌, ℕ, T, leb, ltb, ℤ, length, drop, Result}
+use Rattle.std.specs.declared.result.Result.TheVariants.{Ok, Err}
+use Rattle.rules.specs.declared.Refusal.{Refusal}
+use Rattle.rules.specs.declared.Value.{Value}
 use Rattle.std.specs.Int.{w32}
 use Rattle.std.proofs.Common.{arith, SFits}
 use Rattle.rules.specs.Board as rules
@@ -11,11 +14,6 @@ use Rattle.mask.specs.Val.{Fit}
 use Rattle.domain.specs.Set.{set_of, universe, well}
 use Rattle.domain.specs.Calls.{first_of, last_of, only_of, insert_of, remove_of, remove_all_of, close_of, contains_of, size_of, fixed_value_of, min_of, max_of}
 use Rattle.domain.specs.declared.BitDomain.{BitDomain}
-use Rattle.domain.specs.declared.Told.TheVariants as told
-use Rattle.domain.specs.declared.Outcome.TheVariants as outcome
-use Rattle.domain.specs.declared.Counted.TheVariants as counted
-use Rattle.domain.specs.declared.Found.{Found}
-use Rattle.domain.specs.declared.Found.TheVariants as found
 use Rattle.domain_values.specs.Calls as values
 use Rattle.domain_text.specs.Text as text
 use Rattle.domain_text.proofs.Room.{text-few}
@@ -39,11 +37,11 @@ through-told = lent.through-told words
 
 -- ---- yes or no, and done
 
-telling : (w y : Bool) → Of yes_no (told_of (cond w (told.Is y) (told.Refused Broken)))
+telling : (w y : Bool) → Of yes_no (told_of (cond w (Ok y) (Err Broken)))
 telling true y = said_of y
 telling false y = broken-of
 
-settling : (w : Bool) → Of nothing (outcome_of (cond w outcome.Done (outcome.Refused Broken)))
+settling : (w : Bool) → Of nothing (outcome_of (cond w (Ok tt) (Err Broken)))
 settling true = done-of
 settling false = broken-of
 
@@ -73,7 +71,7 @@ pub sizing-of : (d : BitDomain) → Of number (sizing d)
 unfolding size_of
 sizing-of d = go (well d) refl
   where
-    go : (v : Bool) → well d ≡ v → Of number (count_of (cond v (counted.Count (length (set_of d))) (counted.Refused Broken)))
+    go : (v : Bool) → well d ≡ v → Of number (count_of (cond v (Ok (length (set_of d))) (Err Broken)))
     go true e = count-of {n = length (set_of d)} (omega (arith, few-held d e))
     go false e = broken-of
 
@@ -81,7 +79,7 @@ pub values_of : (cells : List ℤ) (d : BitDomain) → Of number (count_of (valu
 unfolding values.to_vec_of
 values_of cells d = go (well d) refl (ltb (length cells) (length (set_of d)))
   where
-    go : (v : Bool) → well d ≡ v → (t : Bool) → Of number (count_of (cond {A = values.Written} v (cond t (values.written (counted.Refused NoRoom) cells) (values.in_front (set_of d) cells)) (values.written (counted.Refused Broken) cells)).answer)
+    go : (v : Bool) → well d ≡ v → (t : Bool) → Of number (count_of (cond {A = values.Written} v (cond t (values.written (Err NoRoom) cells) (values.in_front (set_of d) cells)) (values.written (Err Broken) cells)).answer)
     go true e true = refused-of NoRoom (omega arith)
     go true e false = count-of {n = length (set_of d)} (omega (arith, few-held d e))
     go false e t = broken-of
@@ -93,7 +91,7 @@ text-of bytes d f h = go (well d) (leb (length all) (length bytes))
     all : List ℕ
     all = text.text_of (set_of d)
 
-    go : (v t : Bool) → Of number (count_of (cond {A = text.Written} v (cond t (record { answer = counted.Count (length all); cells = all ++ drop (length all) bytes }) (text.refuses NoRoom bytes)) (text.refuses Broken bytes)).answer)
+    go : (v t : Bool) → Of number (count_of (cond {A = text.Written} v (cond t (record { answer = Ok (length all); cells = all ++ drop (length all) bytes }) (text.refuses NoRoom bytes)) (text.refuses Broken bytes)).answer)
     go true true = count-of {n = length all} (omega (arith, text-few d.min d.mask f h))
     go true false = refused-of NoRoom (omega arith)
     go false t = broken-of
@@ -111,7 +109,7 @@ module _ (d : BitDomain) (f : SFits w32 d.min) (g : SFits w32 d.max) where
   last-of (x ∷ []) fit = chute-of {v = x} (fit x (has-head x []))
   last-of (x ∷ y ∷ s) fit = last-of (y ∷ s) (λ z h. fit z (has-tail z x (y ∷ s) h))
 
-  finding : (p : Chutes → Found) → ((s : Chutes) → ((x : ℤ) → T (has x s) → SFits w32 x) → Of kinds.chute (chute_of (p s))) → (v : Bool) → well d ≡ v → Of kinds.chute (chute_of (cond v (p (set_of d)) (found.Refused Broken)))
+  finding : (p : Chutes → Result Value Refusal) → ((s : Chutes) → ((x : ℤ) → T (has x s) → SFits w32 x) → Of kinds.chute (chute_of (p s))) → (v : Bool) → well d ≡ v → Of kinds.chute (chute_of (cond v (p (set_of d)) (Err Broken)))
   finding p room true e = room (set_of d) (held_fits d e f g)
   finding p room false e = broken-of
 

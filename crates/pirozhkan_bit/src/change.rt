@@ -11,59 +11,47 @@ use rules::Value;
 pub fn pirozhkan_bit_insert(ws: &mut [u64], value: i32) -> u64
     ensures { left {C = List ℕ} result ws.new ≡ through (inserting value) ws.old }
 {
-    if ws.len() < inner::WORDS {
-        return 14;
-    }
-    let d = inner::read(ws);
-    inner::change(ws, domain::insert(d, Value(value)))
+    inner::settle(ws, |d| domain::insert(d, Value(value)), reply::told)
 }
 
 pub fn pirozhkan_bit_remove(ws: &mut [u64], value: i32) -> u64
     ensures { left {C = List ℕ} result ws.new ≡ through (removing value) ws.old }
 {
-    if ws.len() < inner::WORDS {
-        return 14;
-    }
-    let d = inner::read(ws);
-    inner::change(ws, domain::remove(d, Value(value)))
+    inner::settle(ws, |d| domain::remove(d, Value(value)), reply::told)
 }
 
 pub fn pirozhkan_bit_remove_all(ws: &mut [u64]) -> u64
     ensures { left {C = List ℕ} result ws.new ≡ through emptying ws.old }
 {
-    if ws.len() < inner::WORDS {
-        return 14;
-    }
-    let d = inner::read(ws);
-    inner::narrow(ws, domain::remove_all(d))
+    inner::settle(ws, domain::remove_all, reply::outcome)
 }
 
 pub fn pirozhkan_bit_remove_all_but(ws: &mut [u64], value: i32) -> u64
     ensures { left {C = List ℕ} result ws.new ≡ through (closing assign value) ws.old }
 {
-    if ws.len() < inner::WORDS {
-        return 14;
-    }
-    let d = inner::read(ws);
-    inner::narrow(ws, domain::remove_all_but(d, Value(value)))
+    inner::settle(
+        ws,
+        |d| domain::remove_all_but(d, Value(value)),
+        reply::outcome,
+    )
 }
 
 pub fn pirozhkan_bit_remove_below(ws: &mut [u64], value: i32) -> u64
     ensures { left {C = List ℕ} result ws.new ≡ through (closing below value) ws.old }
 {
-    if ws.len() < inner::WORDS {
-        return 14;
-    }
-    let d = inner::read(ws);
-    inner::narrow(ws, domain::remove_below(d, Value(value)))
+    inner::settle(
+        ws,
+        |d| domain::remove_below(d, Value(value)),
+        reply::outcome,
+    )
 }
 
 pub fn pirozhkan_bit_remove_above(ws: &mut [u64], value: i32) -> u64
     ensures { left {C = List ℕ} result ws.new ≡ through (closing above value) ws.old }
 {
-    if ws.len() < inner::WORDS {
-        return 14;
-    }
-    let d = inner::read(ws);
-    inner::narrow(ws, domain::remove_above(d, Value(value)))
+    inner::settle(
+        ws,
+        |d| domain::remove_above(d, Value(value)),
+        reply::outcome,
+    )
 }

@@ -1,11 +1,13 @@
-// A domain in three words, and what the calls that hand one back end with.
+// A domain in three words, and what the exported calls share: the words are read, a call is made, and the domain that it hands back is
+// written.
 ghost use Rattle.std.specs.Prelude.{◌≡◌, List, ◌++◌, ℕ, ◌≤◌, length, drop};
 ghost use Rattle.reply.specs.Through.{left};
 ghost use Rattle.pirozhkan_bit.specs.Layout.{size, written_of, read_of};
-ghost use Rattle.pirozhkan_bit.specs.Lent.{changed, narrowed, written};
+ghost use Rattle.pirozhkan_bit.specs.Lent.{Asks, Makes};
 
-use domain::{BitDomain, Changed, Narrowed};
+use domain::{Answered, BitDomain};
 use mask::Mask;
+use rules::Refusal;
 
 // How many words a domain takes.
 pub const WORDS: usize = 3;
@@ -14,15 +16,13 @@ pub fn read(ws: &[u64]) -> BitDomain
     requires { size ≤ length ws.now }
     ensures { result ≡ read_of ws.now }
 {
-    let ends = ws[0];
-    let mask = Mask {
-        lo: ws[1],
-        hi: ws[2],
-    };
     BitDomain {
-        mask,
-        min: state::low_chute(ends),
-        max: state::high_chute(ends),
+        mask: Mask {
+            lo: ws[1],
+            hi: ws[2],
+        },
+        min: state::low_chute(ws[0]),
+        max: state::high_chute(ws[0]),
     }
 }
 
@@ -36,23 +36,33 @@ pub fn write(d: BitDomain, ws: &mut [u64])
     ws[2] = d.mask.hi;
 }
 
-// The domain that a call handed back is written, and its answer told.
-pub fn change(ws: &mut [u64], r: Changed) -> u64
-    requires { size ≤ length ws.old }
-    ensures { left {C = List ℕ} result ws.new ≡ written ws.old (changed r) }
+// A question of the domain that the words stand for.
+#[tactic(auto, unfolding(reply::specs::Lent::answered, reply::specs::Told::coded))]
+pub fn ask<F: FnOnce(BitDomain) -> u64>(ws: &[u64], question: F) -> u64
+    requires { F.IsAlwaysCallable question }
+    ensures { Asks (F.post question) ws.now result }
 {
-    let d = r.domain;
-    let answer = r.answer;
-    write(d, ws);
-    reply::told(answer)
+    if ws.len() < WORDS {
+        return reply::refusal(Refusal::NoRoom);
+    }
+    question(read(ws))
 }
 
-pub fn narrow(ws: &mut [u64], r: Narrowed) -> u64
-    requires { size ≤ length ws.old }
-    ensures { left {C = List ℕ} result ws.new ≡ written ws.old (narrowed r) }
+// A call that hands a domain back: it is written, and the answer told.
+#[tactic(auto, unfolding(reply::specs::Lent::through, reply::specs::Told::coded))]
+pub fn settle<T, F: FnOnce(BitDomain) -> Answered<T>, G: FnOnce(Result<T, Refusal>) -> u64>(
+    ws: &mut [u64],
+    call: F,
+    tell: G,
+) -> u64
+    requires call { F.IsAlwaysCallable call }
+    requires tell { G.IsAlwaysCallable tell }
+    ensures { Makes (F.post call) (G.post tell) ws.old (left {C = List ℕ} result ws.new) }
 {
-    let d = r.domain;
-    let answer = r.answer;
-    write(d, ws);
-    reply::outcome(answer)
+    if ws.len() < WORDS {
+        return reply::refusal(Refusal::NoRoom);
+    }
+    let after = call(read(ws));
+    write(after.domain, ws);
+    tell(after.answer)
 }

@@ -7,13 +7,14 @@ ghost use Rattle.pirozhkan_bit.specs.Calls.{between};
 
 use super::inner;
 use domain::BitDomain;
-use rules::Value;
+use rules::{Refusal, Value};
 
+#[tactic(auto, unfolding(reply::specs::Lent::through, reply::specs::Told::coded))]
 fn begin(ws: &mut [u64], d: BitDomain) -> u64
     ensures { left {C = List ℕ} result ws.new ≡ begun d ws.old }
 {
     if ws.len() < inner::WORDS {
-        return 14;
+        return reply::refusal(Refusal::NoRoom);
     }
     inner::write(d, ws);
     0

@@ -1,8 +1,8 @@
 -- The length of a sheet's text has room in the code: no text has more than 2,816 bytes. Assumes nothing.
 use Rattle.std.specs.Prelude.{◌≡◌, Bool, true, false, cond, List, ◌++◌, ℕ, leb, length, drop}
+use Rattle.std.specs.declared.result.Result.TheVariants.{Ok, Err}
 use Rattle.std.proofs.Common.{arith}
 use Rattle.rules.specs.declared.Refusal.TheVariants.{NoRoom}
-use Rattle.domain.specs.declared.Counted.TheVariants as counted
 use Rattle.domain_text.specs.Text.{Written, refuses}
 use Rattle.board_ask.specs.Answers.{count_of}
 use Rattle.wave.specs.Text.{wave_text, wave_of}
@@ -18,7 +18,7 @@ wave-of sheet out = go (leb (length text) (length out))
     text : List ℕ
     text = wave_text sheet
 
-    go : (t : Bool) → Of number (count_of (cond {A = Written} t (record { answer = counted.Count (length text); cells = text ++ drop (length text) out }) (refuses NoRoom out)).answer)
+    go : (t : Bool) → Of number (count_of (cond {A = Written} t (record { answer = Ok (length text); cells = text ++ drop (length text) out }) (refuses NoRoom out)).answer)
     go true = count-of {n = length text} (omega (arith, text-few sheet))
     go false = denied-of {r = NoRoom} (omega arith)
 

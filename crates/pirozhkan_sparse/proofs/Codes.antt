@@ -1,6 +1,8 @@
 -- Every answer of an exported call has room in its code, so that `told_by` reads it back: no refusal names a place, a set holds at most 4,096
 -- values, its text has at most 12 bytes for each value of the universe and 3 more, and a value is an i32. Assumes nothing.
-use Rattle.std.specs.Prelude.{◌≡◌, refl, Bool, true, false, cond, ◌&&◌, List, [], ◌∷◌, ◌++◌, ℕ, zero, suc, ◌*◌, ◌^◌, ◌≤◌, ◌<◌, eqb, leb, ltb, ℤ, pos, ◌+ℤ◌, ◌-ℤ◌, length, get_or, drop}
+use Rattle.std.specs.Prelude.{◌≡◌, refl, Bool, true, false, cond, ◌&&◌, List, [], ◌∷◌, ◌++◌, ℕ, zero, suc, ◌*◌, ◌^◌, ◌≤◌, ◌<◌, eqb, leb, ltb, ℤ, pos, ◌+ℤ◌, ◌-ℤ◌, length, get_or, drop, Result}
+use Rattle.std.specs.declared.result.Result.TheVariants.{Ok, Err}
+use Rattle.sparse_inner.specs.declared.Sparse.{Sparse}
 use Rattle.std.specs.Int.Signed.{lt_z}
 use Rattle.std.specs.Int.{w32}
 use Rattle.std.proofs.Common.{subst, le_refl, arith, length-append, SFits}
@@ -16,19 +18,9 @@ use Rattle.offset.specs.Places.{cut_of, span_of}
 use Rattle.sparse_inner.specs.Set.{Full, widest, state_of, verdict, narrow_b, room_b, sound_b, verdict_of, both_of, fits_b, is_held, place_in, value_at, set_of, over}
 use Rattle.sparse_inner.specs.Change.{drop_at, only_at, emptied, from_cut, under_cut}
 use Rattle.sparse_inner.specs.declared.SparseState.{SparseState}
-use Rattle.sparse_inner.specs.declared.Verdict.{Verdict}
-use Rattle.sparse_inner.specs.declared.Verdict.TheVariants.{Fine, Refused}
 use Rattle.sparse_inner.proofs.Checks.{well-of, value-fits}
 use Rattle.sparse.specs.Calls.{unless, in_cell, nothing, found_of, after, restated, size_of, contains_of, min_of, max_of, save_of, remove_of, remove_all_of, remove_all_but_of, remove_below_of, remove_above_of, restore_of}
-use Rattle.sparse.specs.declared.Told.TheVariants as told
-use Rattle.sparse.specs.declared.Counted.TheVariants as counted
-use Rattle.sparse.specs.declared.Found.TheVariants as found
-use Rattle.sparse.specs.declared.Outcome.TheVariants as outcome
-use Rattle.sparse.specs.declared.Kept.{Kept}
-use Rattle.sparse.specs.declared.Kept.TheVariants as kept
 use Rattle.sparse_make.specs.Calls as make
-use Rattle.sparse_make.specs.declared.Made.{Made}
-use Rattle.sparse_make.specs.declared.Made.TheVariants as made
 use Rattle.sparse_pairs.specs.Calls as pairs
 use Rattle.sparse_values.specs.Calls as values
 use Rattle.sparse_text.specs.Text as text
@@ -52,9 +44,9 @@ through-told = lent.through-told sets
 
 -- ---- a verdict names no place
 
-abbrev verdict_place : Verdict → ℕ
-verdict_place Fine = 0
-verdict_place (Refused r) = place_of r
+abbrev verdict_place : Result Unit Refusal → ℕ
+verdict_place (Ok tt) = 0
+verdict_place (Err r) = place_of r
 
 verdict-near : (a b c : Bool) → verdict_place (verdict a b c) ≡ 0
 verdict-near true true true = refl
@@ -73,22 +65,22 @@ both-near f g = verdict-near (narrow_b f && narrow_b g) (room_b f && room_b g) (
 -- ---- yes or no, and done
 
 -- a call that the verdict refuses, or lets answer
-judged : {A : Type 0} {k : Kind} (told : A → rules.Answer) (refusing : Refusal → A) → ((r : Refusal) → rules.denied r ≡ told (refusing r)) → (v : Verdict) → verdict_place v ≡ 0 → (a : A) → (v ≡ Fine → Of k (told a)) → Of k (told (unless v refusing a))
-judged told refusing same Fine e a room = room refl
-judged {k = k} told refusing same (Refused r) e a room = subst (λ (x : rules.Answer). Of k x) (same r) (no r e)
+judged : {A : Type 0} {k : Kind} (told : A → rules.Answer) (refusing : Refusal → A) → ((r : Refusal) → rules.denied r ≡ told (refusing r)) → (v : Result Unit Refusal) → verdict_place v ≡ 0 → (a : A) → (v ≡ Ok tt → Of k (told a)) → Of k (told (unless v refusing a))
+judged told refusing same (Ok tt) e a room = room refl
+judged {k = k} told refusing same (Err r) e a room = subst (λ (x : rules.Answer). Of k x) (same r) (no r e)
 
-settling : (v : Verdict) → verdict_place v ≡ 0 → (f g : Full) → Of kinds.nothing (outcome_of (unless v (λ why. after (outcome.Refused why) f) (after outcome.Done g)).answer)
-settling v e f g = judged (λ x. outcome_of x.answer) (λ why. after (outcome.Refused why) f) (λ r. refl) v e (after outcome.Done g) (λ _. done-of)
+settling : (v : Result Unit Refusal) → verdict_place v ≡ 0 → (f g : Full) → Of kinds.nothing (outcome_of (unless v (λ why. after (Err why) f) (after (Ok tt) g)).answer)
+settling v e f g = judged (λ x. outcome_of x.answer) (λ why. after (Err why) f) (λ r. refl) v e (after (Ok tt) g) (λ _. done-of)
 
 pub held_of : (v : ℤ) (f : Full) → Of yes_no (whether_held v f)
 unfolding contains_of
-held_of v f = judged told_of told.Refused (λ r. refl) (verdict_of f) (one-near f) (told.Is (is_held f v)) (λ _. said_of (is_held f v))
+held_of v f = judged told_of Err (λ r. refl) (verdict_of f) (one-near f) (Ok (is_held f v)) (λ _. said_of (is_held f v))
 
 pub removing-of : (v : ℤ) (f : Full) → Of yes_no (removing v f).answer
 unfolding remove_of
 removing-of v f =
-    judged (λ x. told_of x.answer) (λ why. after (told.Refused why) f) (λ r. refl) (verdict_of f) (one-near f)
-    (after (told.Is (is_held f v)) (drop_at f (place_in f.set v))) (λ _. said_of (is_held f v))
+    judged (λ x. told_of x.answer) (λ why. after (Err why) f) (λ r. refl) (verdict_of f) (one-near f)
+    (after (Ok (is_held f v)) (drop_at f (place_in f.set v))) (λ _. said_of (is_held f v))
 
 pub emptying-of : (f : Full) → Of kinds.nothing (emptying f).answer
 unfolding remove_all_of
@@ -114,10 +106,10 @@ pub restoring-of : (t : SparseState) (f : Full) → Of kinds.nothing (restoring 
 unfolding restore_of
 restoring-of t f = go (verdict_of f) (one-near f) (fits_b f.ind f.val f.set.n t)
   where
-    go : (w : Verdict) → verdict_place w ≡ 0 → (y : Bool) → Of kinds.nothing (outcome_of (unless w (λ why. after (outcome.Refused why) f) (cond y (after outcome.Done (restated f t)) (after (outcome.Refused BadState) f))).answer)
-    go Fine e true = done-of
-    go Fine e false = no BadState refl
-    go (Refused r) e y = no r e
+    go : (w : Result Unit Refusal) → verdict_place w ≡ 0 → (y : Bool) → Of kinds.nothing (outcome_of (unless w (λ why. after (Err why) f) (cond y (after (Ok tt) (restated f t)) (after (Err BadState) f))).answer)
+    go (Ok tt) e true = done-of
+    go (Ok tt) e false = no BadState refl
+    go (Err r) e y = no r e
 
 pub parting-of : (f g : Full) (want : Bool) (scratch : List ℤ) → Of kinds.nothing (pared (pairs.part_of f g want scratch)).answer
 unfolding pairs.part_of
@@ -126,33 +118,33 @@ parting-of f g want scratch = go (both_of f g) (both-near f g) (ltb (length scra
     gone : List ℤ
     gone = pairs.parted f g want
 
-    go : (w : Verdict) → verdict_place w ≡ 0 → (t : Bool) → Of kinds.nothing (outcome_of (unless w (λ why. pairs.pared (outcome.Refused why) f scratch) (cond t (pairs.pared (outcome.Refused NoRoom) f scratch) (pairs.pared outcome.Done (pairs.drop_each f gone) (over gone scratch)))).answer)
-    go Fine e true = no NoRoom refl
-    go Fine e false = done-of
-    go (Refused r) e t = no r e
+    go : (w : Result Unit Refusal) → verdict_place w ≡ 0 → (t : Bool) → Of kinds.nothing (outcome_of (unless w (λ why. pairs.pared (Err why) f scratch) (cond t (pairs.pared (Err NoRoom) f scratch) (pairs.pared (Ok tt) (pairs.drop_each f gone) (over gone scratch)))).answer)
+    go (Ok tt) e true = no NoRoom refl
+    go (Ok tt) e false = done-of
+    go (Err r) e t = no r e
 
 -- ---- how many
 
-few-held : (f : Full) → verdict_of f ≡ Fine → f.set.size < 2 ^ 56
+few-held : (f : Full) → verdict_of f ≡ Ok tt → f.set.size < 2 ^ 56
 few-held f q = let w = well-of f q in omega (arith, w.within, w.narrow)
 
 pub sizing-of : (f : Full) → Of number (sizing f)
 unfolding size_of
-sizing-of f = judged count_of counted.Refused (λ r. refl) (verdict_of f) (one-near f) (counted.Count f.set.size) (λ q. count-of (few-held f q))
+sizing-of f = judged count_of Err (λ r. refl) (verdict_of f) (one-near f) (Ok f.set.size) (λ q. count-of (few-held f q))
 
 pub values_of : (out : List ℤ) (f : Full) → Of number (count_of (values.to_vec_of f out).answer)
 unfolding values.to_vec_of
 values_of out f = go (verdict_of f) refl (one-near f) (ltb (length out) f.set.size)
   where
-    go : (w : Verdict) → verdict_of f ≡ w → verdict_place w ≡ 0 → (t : Bool) → Of number (count_of (unless w (λ why. values.written (counted.Refused why) out) (cond t (values.written (counted.Refused NoRoom) out) (values.written (counted.Count f.set.size) (over (set_of f) out)))).answer)
-    go Fine q e true = no NoRoom refl
-    go Fine q e false = count-of (few-held f q)
-    go (Refused r) q e t = no r e
+    go : (w : Result Unit Refusal) → verdict_of f ≡ w → verdict_place w ≡ 0 → (t : Bool) → Of number (count_of (unless w (λ why. values.written (Err why) out) (cond t (values.written (Err NoRoom) out) (values.written (Ok f.set.size) (over (set_of f) out)))).answer)
+    go (Ok tt) q e true = no NoRoom refl
+    go (Ok tt) q e false = count-of (few-held f q)
+    go (Err r) q e t = no r e
 
 -- ---- values: i32 numbers, since the first of the universe is one
 
 module _ (f : Full) (o : SFits w32 f.set.off) where
-  bound_of : (q : verdict_of f ≡ Fine) (none : Bool) (k : ℕ) → (none ≡ false → k < f.set.n) → Of kinds.chute (value_of (found_of none (value_at f.set k)))
+  bound_of : (q : verdict_of f ≡ Ok tt) (none : Bool) (k : ℕ) → (none ≡ false → k < f.set.n) → Of kinds.chute (value_of (found_of none (value_at f.set k)))
   bound_of q true k l = no Empty refl
   bound_of q false k l = chute-of {v = value_at f.set k} (value-fits f.set.off f.set.n k o (well-of f q).universe (l refl))
 
@@ -164,8 +156,8 @@ module _ (f : Full) (o : SFits w32 f.set.off) where
       go (suc n) h = omega arith
 
   -- a bound of what is held
-  finding : (k : ℕ) → ((q : verdict_of f ≡ Fine) → 0 < f.set.size → k < f.set.n) → Of kinds.chute (value_of (unless (verdict_of f) found.Refused (found_of (nothing f) (value_at f.set k))))
-  finding k l = judged value_of found.Refused (λ r. refl) (verdict_of f) (one-near f) (found_of (nothing f) (value_at f.set k)) (λ q. bound_of q (nothing f) k (λ z. l q (some-held z)))
+  finding : (k : ℕ) → ((q : verdict_of f ≡ Ok tt) → 0 < f.set.size → k < f.set.n) → Of kinds.chute (value_of (unless (verdict_of f) Err (found_of (nothing f) (value_at f.set k))))
+  finding k l = judged value_of Err (λ r. refl) (verdict_of f) (one-near f) (found_of (nothing f) (value_at f.set k)) (λ q. bound_of q (nothing f) k (λ z. l q (some-held z)))
 
   pub smallest-of : Of kinds.chute (smallest f)
   unfolding min_of
@@ -177,7 +169,7 @@ module _ (f : Full) (o : SFits w32 f.set.off) where
 
   -- ---- the text
 
-  listed-few : (q : verdict_of f ≡ Fine) (k : ℕ) → k ≤ f.set.n → length (text.listed f k) ≤ 12 * k
+  listed-few : (q : verdict_of f ≡ Ok tt) (k : ℕ) → k ≤ f.set.n → length (text.listed f k) ≤ 12 * k
   unfolding text.listed
   listed-few q zero h = omega arith
   listed-few q (suc k) h =
@@ -200,41 +192,41 @@ module _ (f : Full) (o : SFits w32 f.set.off) where
       all : List ℕ
       all = text.text_of f
 
-      go : (w : Verdict) → verdict_of f ≡ w → verdict_place w ≡ 0 → (t : Bool) → Of number (count_of (unless w (λ why. text.written (counted.Refused why) out) (cond t (text.written (counted.Refused NoRoom) out) (text.written (counted.Count (length all)) (all ++ drop (length all) out)))).answer)
-      go Fine q e true = no NoRoom refl
-      go Fine q e false = let w = well-of f q in count-of {n = length all} (omega (arith, text-size f, listed-few q f.set.n (le_refl f.set.n), closing-few f.set.size f.set.n, w.narrow))
-      go (Refused r) q e t = no r e
+      go : (w : Result Unit Refusal) → verdict_of f ≡ w → verdict_place w ≡ 0 → (t : Bool) → Of number (count_of (unless w (λ why. text.written (Err why) out) (cond t (text.written (Err NoRoom) out) (text.written (Ok (length all)) (all ++ drop (length all) out)))).answer)
+      go (Ok tt) q e true = no NoRoom refl
+      go (Ok tt) q e false = let w = well-of f q in count-of {n = length all} (omega (arith, text-size f, listed-few q f.set.n (le_refl f.set.n), closing-few f.set.size f.set.n, w.narrow))
+      go (Err r) q e t = no r e
 
 -- ---- a saved state and a new set: their refusals name no place
 
-abbrev pub kept_place : Kept → ℕ
-kept_place (kept.State t) = 0
-kept_place (kept.Refused r) = place_of r
+abbrev pub kept_place : Result SparseState Refusal → ℕ
+kept_place (Ok t) = 0
+kept_place (Err r) = place_of r
 
 pub saving-of : (f : Full) → kept_place (save_of f) ≡ 0
 unfolding save_of
 saving-of f = go (verdict_of f) (one-near f)
   where
-    go : (w : Verdict) → verdict_place w ≡ 0 → kept_place (unless w kept.Refused (kept.State (state_of f.set))) ≡ 0
-    go Fine e = refl
-    go (Refused r) e = e
+    go : (w : Result Unit Refusal) → verdict_place w ≡ 0 → kept_place (unless w Err (Ok (state_of f.set))) ≡ 0
+    go (Ok tt) e = refl
+    go (Err r) e = e
 
-abbrev pub made_place : Made → ℕ
-made_place (made.Set s) = 0
-made_place (made.Refused r) = place_of r
+abbrev pub made_place : Result Sparse Refusal → ℕ
+made_place (Ok s) = 0
+made_place (Err r) = place_of r
 
 room-near : (n : ℕ) (ind val : List ℕ) → verdict_place (make.room_for n ind val) ≡ 0
 unfolding make.room_for
 room-near n ind val = go (leb n widest) (leb n (length ind) && leb n (length val))
   where
-    go : (a b : Bool) → verdict_place (cond a (cond b Fine (Refused Short)) (Refused TooWide)) ≡ 0
+    go : (a b : Bool) → verdict_place (cond a (cond b (Ok tt) (Err Short)) (Err TooWide)) ≡ 0
     go true true = refl
     go true false = refl
     go false b = refl
 
-making-near : (w : Verdict) → verdict_place w ≡ 0 → (ind val : List ℕ) (f : Full) → made_place (make.unless w ind val f).answer ≡ 0
-making-near Fine e ind val f = refl
-making-near (Refused r) e ind val f = e
+making-near : (w : Result Unit Refusal) → verdict_place w ≡ 0 → (ind val : List ℕ) (f : Full) → made_place (make.unless w ind val f).answer ≡ 0
+making-near (Ok tt) e ind val f = refl
+making-near (Err r) e ind val f = e
 
 pub new-of : (a b : Value) (ind val : List ℕ) → made_place (make.new_of a b ind val).answer ≡ 0
 unfolding make.new_of make.between_of

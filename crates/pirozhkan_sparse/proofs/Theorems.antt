@@ -1,13 +1,13 @@
 -- What is written is read back as the same state, every five cells are the writing of exactly one, and a refused call leaves every cell.
 -- Assumes nothing.
 use Rattle.std.specs.Prelude.{◌≡◌, refl, List, ◌∷◌, ◌++◌, ℕ, ◌≤◌, ◌<◌, ◌^◌, ℤ, length, get_or, drop}
+use Rattle.std.specs.declared.result.Result.TheVariants.{Err}
 use Rattle.std.specs.Int.{w32}
 use Rattle.std.proofs.Common.{sym, ap, ◌∙◌, arith, drop-cons, SFits}
 use Rattle.rules.specs.Board as rules
 use Rattle.rules.specs.declared.Refusal.{Refusal}
 use Rattle.sparse_inner.specs.Set.{Full}
 use Rattle.sparse_inner.specs.declared.Sparse.{Sparse}
-use Rattle.sparse.specs.declared.Outcome.TheVariants as outcome
 use Rattle.sparse_pairs.specs.Calls as pairs
 use Rattle.sparse_pairs.specs.Calls.{Pared}
 use Rattle.state.proofs.Halves.{half_back, chute-half}
@@ -65,7 +65,7 @@ joining-same f c d r h m fit e =
     ∙ ap (written c) e
     ∙ ap (λ (cs : List ℕ). left (coded (rules.denied r)) (cells cs c.ind c.val)) (written_back c.state h fit)
 
-pub parting-same : (f : Full → Full → List ℤ → Pared) (c d : Cells) (scratch : List ℤ) (r : Refusal) → size ≤ length c.state → size ≤ length d.state → Small c.state → f (full_in c) (full_in d) scratch ≡ pairs.pared (outcome.Refused r) (full_in c) scratch → parting f c d scratch ≡ left (coded (rules.denied r)) (worn c scratch)
+pub parting-same : (f : Full → Full → List ℤ → Pared) (c d : Cells) (scratch : List ℤ) (r : Refusal) → size ≤ length c.state → size ≤ length d.state → Small c.state → f (full_in c) (full_in d) scratch ≡ pairs.pared (Err r) (full_in c) scratch → parting f c d scratch ≡ left (coded (rules.denied r)) (worn c scratch)
 parting-same f c d scratch r h m fit e =
     let s = f (full_in c) (full_in d) scratch in
     sym (parting-done f c d scratch h m s refl (coded (pared s).answer) (put s.left.set c.state) refl)

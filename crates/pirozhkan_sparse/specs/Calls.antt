@@ -1,13 +1,13 @@
 -- The by-value calls that the exported ones make on the set that they read, by their numbers and lists.
-use Rattle.std.specs.Prelude.{cond, List, ◌++◌, ℕ, ltb, ℤ, length, drop}
+use Rattle.std.specs.Prelude.{cond, List, ◌++◌, ℕ, ltb, ℤ, length, drop, Result}
+use Rattle.std.specs.declared.result.Result.TheVariants.{Ok, Err}
+use Rattle.rules.specs.declared.Refusal.{Refusal}
 use Rattle.rules.specs.Board as rules
 use Rattle.rules.specs.declared.Refusal.TheVariants.{NoRoom}
 use Rattle.rules.specs.declared.Value.{Value}
 use Rattle.sparse_inner.specs.Set.{Full}
 use Rattle.sparse_inner.specs.declared.SparseState.{SparseState}
 use Rattle.sparse.specs.Calls.{size_of, contains_of, min_of, max_of, save_of, remove_of, remove_all_of, remove_all_but_of, remove_below_of, remove_above_of, restore_of}
-use Rattle.sparse.specs.declared.Kept.{Kept}
-use Rattle.sparse.specs.declared.Kept.TheVariants as kept
 use Rattle.sparse_pairs.specs.Calls.{union_of}
 use Rattle.sparse_values.specs.Calls as values
 use Rattle.sparse_text.specs.Text as text
@@ -74,9 +74,9 @@ abbrev pub text_into : List ℕ → Full → Left (List ℕ)
 text_into out f = texted_into (text.write_text_of f out)
 
 -- size, min and max in the first three cells; nothing is written where there are not three
-abbrev pub kept_into : List ℕ → Kept → Left (List ℕ)
-kept_into out (kept.Refused r) = left (coded (rules.denied r)) out
-kept_into out (kept.State t) = cond (ltb (length out) 3) (left (coded (rules.denied NoRoom)) out) (left (coded rules.done) (saved_of t ++ drop 3 out))
+abbrev pub kept_into : List ℕ → Result SparseState Refusal → Left (List ℕ)
+kept_into out (Err r) = left (coded (rules.denied r)) out
+kept_into out (Ok t) = cond (ltb (length out) 3) (left (coded (rules.denied NoRoom)) out) (left (coded rules.done) (saved_of t ++ drop 3 out))
 
 abbrev pub saving_into : List ℕ → Full → Left (List ℕ)
 saving_into out f = kept_into out (save_of f)

@@ -1,46 +1,22 @@
 -- A call on a sparse set that stands in lent cells: the state's cells are read as a set over the two orderings, the by-value call is made, and
 -- the state that it hands back is written. A state of fewer than five cells is refused, and all is left as it came. A set that isn't well
 -- formed is refused by the by-value call, and is written as it was read, which is cell for cell as it came (`Theorems.refused-same`).
-use Rattle.std.specs.Prelude.{true, List, ◌++◌, ℕ, ℤ, length, drop}
+use Rattle.std.specs.Prelude.{◌≡◌, true, List, ◌++◌, ℕ, ℤ, length, drop, Result, Bool}
+use Rattle.std.specs.declared.result.Result.TheVariants.{Ok, Err}
+use Rattle.rules.specs.declared.Refusal.{Refusal}
 use Rattle.rules.specs.Board as rules
 use Rattle.sparse_inner.specs.Set.{Full, full}
 use Rattle.sparse_inner.specs.declared.Sparse.{Sparse}
 use Rattle.sparse.specs.Calls.{After}
-use Rattle.sparse.specs.declared.Told.{Told}
-use Rattle.sparse.specs.declared.Told.TheVariants as told
-use Rattle.sparse.specs.declared.Counted.{Counted}
-use Rattle.sparse.specs.declared.Counted.TheVariants as counted
-use Rattle.sparse.specs.declared.Found.{Found}
-use Rattle.sparse.specs.declared.Found.TheVariants as found
-use Rattle.sparse.specs.declared.Outcome.{Outcome}
-use Rattle.sparse.specs.declared.Outcome.TheVariants as outcome
 use Rattle.sparse_make.specs.Calls.{Making}
-use Rattle.sparse_make.specs.declared.Made.{Made}
-use Rattle.sparse_make.specs.declared.Made.TheVariants as made
 use Rattle.sparse_pairs.specs.Calls.{Pared}
 use Rattle.reply.specs.Told.{coded}
 use Rattle.reply.specs.Lent as lent
 use Rattle.reply.specs.Lent.{Layout, Left}
 use Rattle.reply.specs.Through.{left}
+pub use Rattle.board.specs.Obeys.{told_of, outcome_of}
+pub use Rattle.board_ask.specs.Answers.{count_of, chute_of as value_of}
 use Rattle.pirozhkan_sparse.specs.Layout.{size, read_of, written_of}
-
--- ---- the answers, in the words of the rules
-
-abbrev pub told_of : Told → rules.Answer
-told_of (told.Is y) = rules.said y
-told_of (told.Refused r) = rules.denied r
-
-abbrev pub count_of : Counted → rules.Answer
-count_of (counted.Count n) = rules.count n
-count_of (counted.Refused r) = rules.denied r
-
-abbrev pub value_of : Found → rules.Answer
-value_of (found.At v) = rules.chute v.0
-value_of (found.Refused r) = rules.denied r
-
-abbrev pub outcome_of : Outcome → rules.Answer
-outcome_of outcome.Done = rules.done
-outcome_of (outcome.Refused r) = rules.denied r
 
 -- ---- lent cells
 
@@ -70,10 +46,10 @@ lent_to c refused f = lent.lent_to sets c refused f
 abbrev pub Reply : Type 0
 Reply = lent.Reply Full
 
-abbrev pub changed : After Told → Reply
+abbrev pub changed : After (Result Bool Refusal) → Reply
 changed r = record { state = r.left; answer = told_of r.answer }
 
-abbrev pub narrowed : After Outcome → Reply
+abbrev pub narrowed : After (Result Unit Refusal) → Reply
 narrowed r = record { state = r.left; answer = outcome_of r.answer }
 
 abbrev pub written : Cells → Reply → Left Cells
@@ -84,9 +60,9 @@ through f c = lent.through sets f c
 
 -- ---- a new set is written whatever the state's cells are
 
-abbrev pub made_in : List ℕ → Made → Left (List ℕ)
-made_in state (made.Set s) = left (coded rules.done) (put s state)
-made_in state (made.Refused r) = left (coded (rules.denied r)) state
+abbrev pub made_in : List ℕ → Result Sparse Refusal → Left (List ℕ)
+made_in state (Ok s) = left (coded rules.done) (put s state)
+made_in state (Err r) = left (coded (rules.denied r)) state
 
 abbrev pub over : List ℕ → List ℕ → Left (List ℕ) → Left Cells
 over ind val r = left r.code (cells r.cells ind val)
@@ -103,6 +79,13 @@ answered f c = lent.answered sets f c
 
 abbrev pub shown : {C : Type 0} → (Full → Left C) → Cells → C → Left C
 shown f c out = lent.shown sets f c out
+
+-- a question of a set, whatever call answers it: post says what that may answer
+abbrev pub Asks : (Sparse → ℕ → Type 0) → List ℕ → ℕ → Type 0
+Asks post ws n =
+    (f : Full → rules.Answer) (ind val : List ℕ)
+    → ((s : Sparse) (r : ℕ) → s ≡ read_of ws → post s r → r ≡ coded (f (full s ind val)))
+    → n ≡ answered f (cells ws ind val)
 
 -- ---- calls on two sets: the second is only read
 

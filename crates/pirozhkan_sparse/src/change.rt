@@ -1,31 +1,33 @@
 // The calls that change a set. remove tells whether the value was held.
+#![tactic(auto, unfolding(reply::specs::Lent::through, reply::specs::Told::coded))]
+
 ghost use Rattle.std.specs.Prelude.{◌≡◌};
 ghost use Rattle.reply.specs.Through.{left};
 ghost use Rattle.pirozhkan_sparse.specs.Lent.{Cells, cells, through};
 ghost use Rattle.pirozhkan_sparse.specs.Calls.{removing, emptying, leaving_only, dropping_below, dropping_above, saved, restoring};
 
 use super::inner;
-use rules::Value;
+use rules::{Refusal, Value};
 use sparse_inner::SparseState;
 
 pub fn pirozhkan_sparse_remove(ws: &mut [u32], ind: &mut [u32], val: &mut [u32], value: i32) -> u64
     ensures { left {C = Cells} result (cells ws.new ind.new val.new) ≡ through (removing value) (cells ws.old ind.old val.old) }
 {
     if ws.len() < inner::CELLS {
-        return 14;
+        return reply::refusal(Refusal::NoRoom);
     }
     let s = inner::read(ws);
-    inner::change(ws, sparse::remove(s, ind, val, Value(value)))
+    inner::settle(ws, sparse::remove(s, ind, val, Value(value)), reply::told)
 }
 
 pub fn pirozhkan_sparse_remove_all(ws: &mut [u32], ind: &[u32], val: &[u32]) -> u64
     ensures { left {C = Cells} result (cells ws.new ind.now val.now) ≡ through emptying (cells ws.old ind.now val.now) }
 {
     if ws.len() < inner::CELLS {
-        return 14;
+        return reply::refusal(Refusal::NoRoom);
     }
     let s = inner::read(ws);
-    inner::narrow(ws, sparse::remove_all(s, ind, val))
+    inner::settle(ws, sparse::remove_all(s, ind, val), reply::outcome)
 }
 
 pub fn pirozhkan_sparse_remove_all_but(
@@ -37,10 +39,14 @@ pub fn pirozhkan_sparse_remove_all_but(
     ensures { left {C = Cells} result (cells ws.new ind.new val.new) ≡ through (leaving_only value) (cells ws.old ind.old val.old) }
 {
     if ws.len() < inner::CELLS {
-        return 14;
+        return reply::refusal(Refusal::NoRoom);
     }
     let s = inner::read(ws);
-    inner::narrow(ws, sparse::remove_all_but(s, ind, val, Value(value)))
+    inner::settle(
+        ws,
+        sparse::remove_all_but(s, ind, val, Value(value)),
+        reply::outcome,
+    )
 }
 
 pub fn pirozhkan_sparse_remove_below(
@@ -52,10 +58,14 @@ pub fn pirozhkan_sparse_remove_below(
     ensures { left {C = Cells} result (cells ws.new ind.new val.new) ≡ through (dropping_below value) (cells ws.old ind.old val.old) }
 {
     if ws.len() < inner::CELLS {
-        return 14;
+        return reply::refusal(Refusal::NoRoom);
     }
     let s = inner::read(ws);
-    inner::narrow(ws, sparse::remove_below(s, ind, val, Value(value)))
+    inner::settle(
+        ws,
+        sparse::remove_below(s, ind, val, Value(value)),
+        reply::outcome,
+    )
 }
 
 pub fn pirozhkan_sparse_remove_above(
@@ -67,10 +77,14 @@ pub fn pirozhkan_sparse_remove_above(
     ensures { left {C = Cells} result (cells ws.new ind.new val.new) ≡ through (dropping_above value) (cells ws.old ind.old val.old) }
 {
     if ws.len() < inner::CELLS {
-        return 14;
+        return reply::refusal(Refusal::NoRoom);
     }
     let s = inner::read(ws);
-    inner::narrow(ws, sparse::remove_above(s, ind, val, Value(value)))
+    inner::settle(
+        ws,
+        sparse::remove_above(s, ind, val, Value(value)),
+        reply::outcome,
+    )
 }
 
 // A state that was saved: its size and its bounds.
@@ -85,9 +99,9 @@ pub fn pirozhkan_sparse_restore_state(
     ensures { left {C = Cells} result (cells ws.new ind.now val.now) ≡ through (restoring (saved size min max)) (cells ws.old ind.now val.now) }
 {
     if ws.len() < inner::CELLS {
-        return 14;
+        return reply::refusal(Refusal::NoRoom);
     }
     let s = inner::read(ws);
     let t = SparseState { size, min, max };
-    inner::narrow(ws, sparse::restore_state(s, ind, val, t))
+    inner::settle(ws, sparse::restore_state(s, ind, val, t), reply::outcome)
 }

@@ -1,13 +1,12 @@
-// A set's state in five cells, its answers as codes, and what the calls that hand a state back end with.
+// A set's state in five cells, and what the calls that hand a state back end with.
 ghost use Rattle.std.specs.Prelude.{◌≡◌, List, ℕ, ◌≤◌, length};
-ghost use Rattle.reply.specs.Told.{coded};
 ghost use Rattle.reply.specs.Through.{left};
 ghost use Rattle.pirozhkan_sparse.specs.Layout.{size, read_of};
-ghost use Rattle.pirozhkan_sparse.specs.Lent.{put, told_of, count_of, value_of, outcome_of, made_in};
+ghost use Rattle.pirozhkan_sparse.specs.Lent.{put, made_in, Asks};
 
-use sparse::{Changed, Counted, Found, Narrowed, Outcome, Told};
+use rules::Refusal;
+use sparse::Handed;
 use sparse_inner::Sparse;
-use sparse_make::Made;
 
 // How many cells a state takes.
 pub const CELLS: usize = 5;
@@ -37,74 +36,38 @@ pub fn write(s: Sparse, ws: &mut [u32])
     ws[4] = s.max;
 }
 
-// ---- answers
-
-pub fn told(t: Told) -> u64
-    ensures { result ≡ coded (told_of t) }
+// A question of the set that the cells stand for.
+#[tactic(auto, unfolding(reply::specs::Lent::answered, reply::specs::Told::coded))]
+pub fn ask<F: FnOnce(Sparse) -> u64>(ws: &[u32], question: F) -> u64
+    requires { F.IsAlwaysCallable question }
+    ensures { Asks (F.post question) ws.now result }
 {
-    match t {
-        Told::Refused(r) => reply::refusal(r),
-        Told::Is(y) => reply::said(y),
+    if ws.len() < CELLS {
+        return reply::refusal(Refusal::NoRoom);
     }
+    question(read(ws))
 }
 
-pub fn counted(c: Counted) -> u64
-    ensures { result ≡ coded (count_of c) }
+// The state that a call handed back is written, and its answer told.
+pub fn settle<T, F: FnOnce(Result<T, Refusal>) -> u64>(ws: &mut [u32], r: Handed<T>, tell: F) -> u64
+    requires room { size ≤ length ws.old }
+    requires tell { F.IsAlwaysCallable tell }
+    ensures told { F.post tell r.answer result }
+    ensures written { ws.new ≡ put r.set ws.old }
 {
-    match c {
-        Counted::Refused(r) => reply::refusal(r),
-        Counted::Count(n) => reply::count(n),
-    }
-}
-
-pub fn found(f: Found) -> u64
-    ensures { result ≡ coded (value_of f) }
-{
-    match f {
-        Found::Refused(r) => reply::refusal(r),
-        Found::At(v) => reply::chute(v),
-    }
-}
-
-pub fn outcome(o: Outcome) -> u64
-    ensures { result ≡ coded (outcome_of o) }
-{
-    match o {
-        Outcome::Refused(r) => reply::refusal(r),
-        Outcome::Done => 0,
-    }
-}
-
-// ---- the state that a call handed back is written, and its answer told
-
-pub fn change(ws: &mut [u32], r: Changed) -> u64
-    requires { size ≤ length ws.old }
-    ensures { left {C = List ℕ} result ws.new ≡ left (coded (told_of r.answer)) (put r.set ws.old) }
-{
-    let s = r.set;
-    let answer = r.answer;
-    write(s, ws);
-    told(answer)
-}
-
-pub fn narrow(ws: &mut [u32], r: Narrowed) -> u64
-    requires { size ≤ length ws.old }
-    ensures { left {C = List ℕ} result ws.new ≡ left (coded (outcome_of r.answer)) (put r.set ws.old) }
-{
-    let s = r.set;
-    let answer = r.answer;
-    write(s, ws);
-    outcome(answer)
+    write(r.set, ws);
+    tell(r.answer)
 }
 
 // A set that was refused leaves the state's cells.
-pub fn begin(ws: &mut [u32], m: Made) -> u64
+#[tactic(auto, unfolding(reply::specs::Told::coded))]
+pub fn begin(ws: &mut [u32], m: Result<Sparse, Refusal>) -> u64
     requires { size ≤ length ws.old }
     ensures { left {C = List ℕ} result ws.new ≡ made_in ws.old m }
 {
     match m {
-        Made::Refused(r) => reply::refusal(r),
-        Made::Set(s) => {
+        Err(r) => reply::refusal(r),
+        Ok(s) => {
             write(s, ws);
             0
         }

@@ -5,7 +5,8 @@
 // It has no `requires`: it is safe on whatever it is lent.
 #![tactic(auto)]
 
-pub mod calls;
+pub mod call;
+pub mod lent;
 pub mod run;
 pub mod turns;
 

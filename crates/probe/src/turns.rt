@@ -1,40 +1,28 @@
-// What a record leaves and answers, by the number of its call.
-ghost use Rattle.std.specs.Prelude.{◌<◌};
-
-use super::calls;
-use domain::{BitDomain, Changed, Made, Narrowed};
-use domain_pairs::BitState;
+// What a record leaves and answers, by its call.
+use super::call::Call;
+use domain::{BitDomain, Changed, Narrowed};
 use mask::Mask;
-use probe_parts::lent::least;
 use probe_parts::record::Record;
-use probe_parts::regs::Register;
-use probe_parts::reply::Reply;
-use probe_parts::turn::{Turn, after};
-use probe_parts::{regs, reply, turn, wire};
+use probe_parts::regs::{CURSORS, Register, Registers, STATES};
+use probe_parts::reply;
+use probe_parts::turn::{Turn, after, made, stepped};
+use probe_parts::wire::bits;
 use rules::Value;
 
-// A refused call leaves the register as it was.
-fn made(m: Made, old: Register) -> Turn {
-    match m {
-        Made::Domain(d) => after(regs::of_domain(d), reply::plain(5)),
-        Made::Refused(r) => after(old, reply::refused(r)),
-    }
-}
-
 fn changed(c: Changed) -> Turn {
-    let d = c.domain;
-    let t = c.answer;
-    after(regs::of_domain(d), reply::told(t))
+    after(c.domain.into(), c.answer.into())
 }
 
 fn narrowed(n: Narrowed) -> Turn {
-    let d = n.domain;
-    let o = n.answer;
-    after(regs::of_domain(d), reply::outcome(o))
+    after(n.domain.into(), n.answer.into())
+}
+
+fn plain(d: BitDomain) -> Turn {
+    after(d.into(), reply::none())
 }
 
 // A register of a record's own numbers, well formed or not.
-pub fn raw(r: Record, bounds: u64) -> Register {
+fn raw(r: Record, bounds: u64) -> Register {
     Register {
         lo: r.lo,
         hi: r.hi,
@@ -42,107 +30,82 @@ pub fn raw(r: Record, bounds: u64) -> Register {
     }
 }
 
-fn plain(d: BitDomain) -> Turn {
-    after(regs::of_domain(d), reply::none())
+// The listed values from place b up to place b + n.
+fn listed(r: Record, regs: &Registers) -> &[i32] {
+    let end = r.b + r.n.min(152);
+    &regs.values[r.b..end]
 }
 
-fn make(op: u64, a: Value, b: Value, old: Register, other: BitDomain) -> Turn {
-    match op {
-        5 | 6 => made(calls::made(op, a, b), old),
-        _ => plain(calls::plain(op, a, b, other)),
-    }
-}
-
-// A domain made of the listed values from place b up to place b + n.
-fn gather(r: Record, regs: &[u64; 256], old: Register) -> Turn
-    requires { r.b < 8 }
-{
-    let start = r.b;
-    let end = start + least(r.n, 152);
-    let values = regs::values(regs);
-    if r.op == 8 {
-        return plain(domain_values::new_from_values(&values[start..end]));
-    }
-    made(domain_values::try_new_from_values(&values[start..end]), old)
-}
-
-fn ask(op: u64, d: BitDomain, other: BitDomain, v: Value) -> Reply {
-    match op {
-        18 | 26 => reply::counted(calls::counted(op, d)),
-        16 | 17 | 19 | 20 | 42 | 43 => reply::told(calls::told(op, d, other, v)),
-        44 | 46 | 47 => reply::masked(calls::masked(op, d, other)),
-        50 => reply::kept(domain_pairs::save_state(d)),
-        _ => reply::found(calls::found(op, d)),
-    }
-}
-
-fn change(r: Record, d: BitDomain, other: BitDomain, s: BitState) -> Turn {
+// What is left of domain a. The calls that it doesn't name are on cursors.
+pub fn on_domain(call: Call, r: Record, regs: &Registers) -> Turn {
+    let old = regs.get(r.a);
+    let d = BitDomain::from(old);
+    let other = BitDomain::from(regs.get(r.b));
+    let state = regs.get(STATES + r.b).into();
     let v = Value(r.v);
+    let w = Value(r.w);
     let m = Mask { lo: r.lo, hi: r.hi };
-    let op = r.op;
-    match op {
-        32 | 33 | 45 => changed(calls::changed(op, d, v, m)),
-        34 | 35 | 36 | 37 => narrowed(calls::cut(op, d, v)),
-        _ => narrowed(calls::joined(op, d, other, m, s)),
+    match call {
+        Call::SetDomain => after(raw(r, bits(r.v) | (bits(r.w) << 32)), reply::none()),
+        Call::New => plain(domain::new(v, w)),
+        Call::NewEmpty => plain(domain::new_empty(v, w)),
+        Call::NewInvalid => plain(domain::new_invalid()),
+        Call::TryNew => made(domain::try_new(v, w), old),
+        Call::TryNewEmpty => made(domain::try_new_empty(v, w), old),
+        Call::Copied => plain(other),
+        Call::NewFromValues => plain(domain_values::new_from_values(listed(r, regs))),
+        Call::TryNewFromValues => made(domain_values::try_new_from_values(listed(r, regs)), old),
+        Call::IsInvalid => after(old, domain::is_invalid(d).into()),
+        Call::Contains => after(old, domain::contains(d, v).into()),
+        Call::Size => after(old, domain::size(d).into()),
+        Call::IsEmpty => after(old, domain::is_empty(d).into()),
+        Call::IsFixed => after(old, domain::is_fixed(d).into()),
+        Call::FixedValue => after(old, domain::fixed_value(d).into()),
+        Call::Min => after(old, domain::min(d).into()),
+        Call::Max => after(old, domain::max(d).into()),
+        Call::First => after(old, domain::first(d).into()),
+        Call::Last => after(old, domain::last(d).into()),
+        Call::UniverseSize => after(old, domain::universe_size(d).into()),
+        Call::MinUniverseValue => after(old, domain::min_universe_value(d).into()),
+        Call::MaxUniverseValue => after(old, domain::max_universe_value(d).into()),
+        Call::Insert => changed(domain::insert(d, v)),
+        Call::Remove => changed(domain::remove(d, v)),
+        Call::RemoveAll => narrowed(domain::remove_all(d)),
+        Call::RemoveAllBut => narrowed(domain::remove_all_but(d, v)),
+        Call::RemoveBelow => narrowed(domain::remove_below(d, v)),
+        Call::RemoveAbove => narrowed(domain::remove_above(d, v)),
+        Call::IntersectWith => narrowed(domain_pairs::intersect_with(d, other)),
+        Call::UnionWith => narrowed(domain_pairs::union_with(d, other)),
+        Call::IsSubsetOf => after(old, domain_pairs::is_subset_of(d, other).into()),
+        Call::Equals => after(old, domain_pairs::equals(d, other).into()),
+        Call::UnionMask => after(old, domain_pairs::union_mask(d, other).into()),
+        Call::RemoveByMask => changed(domain_pairs::remove_by_mask(d, m)),
+        Call::GetMask => after(old, domain_pairs::get_mask(d).into()),
+        Call::CurrentMask => after(old, domain_pairs::current_mask(d).into()),
+        Call::GetMinVal => after(old, domain_pairs::get_min_val(d).into()),
+        Call::RestoreMask => narrowed(domain_pairs::restore_mask(d, m)),
+        Call::SaveState => after(old, domain_pairs::save_state(d).into()),
+        Call::RestoreState => narrowed(domain_pairs::restore_state(d, state)),
+        _ => after(old, reply::none()),
     }
 }
 
-// The records that are no call: 1 sets the register, the others leave it.
-fn set(r: Record, old: Register) -> Turn {
-    if r.op == 1 {
-        let ends = wire::bits(r.v) | (wire::bits(r.w) << 32);
-        return after(raw(r, ends), reply::none());
-    }
-    after(old, reply::none())
-}
-
-// What a record that is given no list leaves of domain a.
-fn call(r: Record, old: Register, other: BitDomain, s: BitState) -> Turn {
-    let op = r.op;
-    match op {
-        0 | 1 | 10 | 52 => set(r, old),
-        2 | 3 | 4 | 5 | 6 | 7 => make(op, Value(r.v), Value(r.w), old, other),
-        32 | 33 | 34 | 35 | 36 | 37 | 40 | 41 | 45 | 49 | 51 => {
-            change(r, regs::domain(old), other, s)
-        }
-        _ => after(old, ask(op, regs::domain(old), other, Value(r.v))),
+// What is left of cursor b. The calls that it doesn't name are on domains.
+pub fn on_cursor(call: Call, r: Record, regs: &Registers) -> Turn {
+    let old = regs.get(CURSORS + r.b);
+    match call {
+        Call::Iter => made(domain_values::iter(regs.get(r.a).into()), old),
+        Call::Next => stepped(domain_values::next(old.into())),
+        Call::Left => after(old, domain_values::left(old.into()).into()),
+        _ => after(raw(r, bits(r.v)), reply::none()),
     }
 }
 
-// What is left of domain a.
-pub fn on_domain(r: Record, regs: &[u64; 256]) -> Turn
-    requires { (r.a < 8) × (r.b < 8) }
-{
-    let old = regs::get(regs, r.a);
-    let op = r.op;
-    match op {
-        8 | 9 => gather(r, regs, old),
-        _ => call(
-            r,
-            old,
-            regs::domain(regs::get(regs, r.b)),
-            regs::state(regs::get(regs, regs::STATES + r.b)),
-        ),
+// What is left of state b: the call saves domain a there, which a refusal leaves as it was, or sets it.
+pub fn state(call: Call, r: Record, regs: &Registers) -> Register {
+    let old = regs.get(STATES + r.b);
+    match call {
+        Call::SaveState => made(domain_pairs::save_state(regs.get(r.a).into()), old).left,
+        _ => raw(r, r.n as u64),
     }
-}
-
-fn walk(r: Record, old: Register, d: BitDomain) -> Turn {
-    let op = r.op;
-    match op {
-        56 => turn::begun(domain_values::iter(d), old),
-        57 => turn::stepped(domain_values::next(regs::cursor(old))),
-        58 => after(old, reply::counted(domain_values::left(regs::cursor(old)))),
-        _ => after(raw(r, wire::bits(r.v)), reply::none()),
-    }
-}
-
-// What is left of cursor b.
-pub fn on_cursor(r: Record, regs: &[u64; 256]) -> Turn
-    requires { (r.a < 8) × (r.b < 8) }
-{
-    walk(
-        r,
-        regs::get(regs, regs::CURSORS + r.b),
-        regs::domain(regs::get(regs, r.a)),
-    )
 }

@@ -6,10 +6,9 @@
 
 ghost use Rattle.std.specs.Prelude.{◌<◌, ◌≤◌, length};
 
-use domain::{BitDomain, Counted, Found, Outcome, Told};
-use domain_values::{Begun, Yielded};
+use domain::{BitDomain, Changed, Narrowed};
 use mask::Mask;
-use rules::Value;
+use rules::{Refusal, Value};
 
 fn domain_of(lo: u64, hi: u64, min: i32, max: i32) -> BitDomain {
     BitDomain {
@@ -19,132 +18,108 @@ fn domain_of(lo: u64, hi: u64, min: i32, max: i32) -> BitDomain {
     }
 }
 
+// What a refusal adds to a sum.
+const REFUSED: u64 = 1000;
+
 // A value as its distance from the least i32.
 fn distance(v: Value) -> u64 {
-    offset::place(v.0, -2147483648, 4294967296) as u64
+    offset::place(v.0, i32::MIN, 4294967296) as u64
 }
 
 fn bits(d: BitDomain) -> u64 {
     d.mask.lo ^ d.mask.hi
 }
 
-fn told(t: Told) -> u64 {
-    match t {
-        Told::Is(yes) => {
-            if yes {
-                return 1;
-            }
-            0
-        }
-        Told::Refused(_) => 1000,
-    }
+fn told(answer: Result<bool, Refusal>) -> u64 {
+    answer.map_or(REFUSED, u64::from)
 }
 
-fn outcome(o: Outcome) -> u64 {
-    match o {
-        Outcome::Done => 0,
-        Outcome::Refused(_) => 1000,
-    }
+fn outcome(answer: Result<(), Refusal>) -> u64 {
+    answer.map_or(REFUSED, |_| 0)
 }
 
-fn counted(c: Counted) -> u64 {
-    match c {
-        Counted::Count(n) => n as u64,
-        Counted::Refused(_) => 1000,
-    }
+fn counted(answer: Result<usize, Refusal>) -> u64 {
+    answer.map_or(REFUSED, |n| n as u64)
 }
 
-fn found(f: Found) -> u64 {
-    match f {
-        Found::At(v) => distance(v),
-        Found::Refused(_) => 1000,
-    }
+fn found(answer: Result<Value, Refusal>) -> u64 {
+    answer.map_or(REFUSED, distance)
 }
 
-fn plus(a: u64, b: u64) -> u64 {
-    std::num::wrapping_add_u64(a, b)
+// A domain after a call, and the call's answer in a sum.
+type Turn = (BitDomain, u64);
+
+fn changed(c: Changed) -> Turn {
+    (c.domain, told(c.answer))
+}
+
+fn narrowed(n: Narrowed) -> Turn {
+    (n.domain, outcome(n.answer))
+}
+
+// A turn for each value, on the domain as the last turn left it.
+fn in_turn<F: Fn(BitDomain, Value) -> Turn>(start: BitDomain, values: &[i32], turn: F) -> u64
+    requires { F.IsAlwaysCallable turn }
+{
+    let mut d = start;
+    let mut sum: u64 = 0;
+    for v in values {
+        let (next, answer) = turn(d, Value(*v));
+        d = next;
+        sum = sum.wrapping_add(answer);
+    }
+    sum ^ bits(d)
 }
 
 pub fn bench_remove(lo: u64, hi: u64, min: i32, max: i32, values: &[i32]) -> u64 {
-    let mut d = domain_of(lo, hi, min, max);
-    let mut sum: u64 = 0;
-    let mut i = 0;
-    while i < values.len() {
-        let c = domain::remove(d, Value(values[i]));
-        d = c.domain;
-        let t = c.answer;
-        sum = plus(sum, told(t));
-        i += 1;
-    }
-    sum ^ bits(d)
+    in_turn(
+        domain_of(lo, hi, min, max),
+        values,
+        |d, v| changed(domain::remove(d, v)),
+    )
 }
 
 pub fn bench_insert(lo: u64, hi: u64, min: i32, max: i32, values: &[i32]) -> u64 {
-    let mut d = domain_of(lo, hi, min, max);
-    let mut sum: u64 = 0;
-    let mut i = 0;
-    while i < values.len() {
-        let c = domain::insert(d, Value(values[i]));
-        d = c.domain;
-        let t = c.answer;
-        sum = plus(sum, told(t));
-        i += 1;
-    }
-    sum ^ bits(d)
+    in_turn(
+        domain_of(lo, hi, min, max),
+        values,
+        |d, v| changed(domain::insert(d, v)),
+    )
 }
 
 pub fn bench_remove_below(lo: u64, hi: u64, min: i32, max: i32, values: &[i32]) -> u64 {
-    let mut d = domain_of(lo, hi, min, max);
-    let mut sum: u64 = 0;
-    let mut i = 0;
-    while i < values.len() {
-        let c = domain::remove_below(d, Value(values[i]));
-        d = c.domain;
-        let t = c.answer;
-        sum = plus(sum, outcome(t));
-        i += 1;
-    }
-    sum ^ bits(d)
+    in_turn(
+        domain_of(lo, hi, min, max),
+        values,
+        |d, v| narrowed(domain::remove_below(d, v)),
+    )
 }
 
 pub fn bench_remove_above(lo: u64, hi: u64, min: i32, max: i32, values: &[i32]) -> u64 {
-    let mut d = domain_of(lo, hi, min, max);
-    let mut sum: u64 = 0;
-    let mut i = 0;
-    while i < values.len() {
-        let c = domain::remove_above(d, Value(values[i]));
-        d = c.domain;
-        let t = c.answer;
-        sum = plus(sum, outcome(t));
-        i += 1;
-    }
-    sum ^ bits(d)
+    in_turn(
+        domain_of(lo, hi, min, max),
+        values,
+        |d, v| narrowed(domain::remove_above(d, v)),
+    )
 }
 
 // Each value on the domain as it came, since the first would leave little of it.
 pub fn bench_remove_all_but(lo: u64, hi: u64, min: i32, max: i32, values: &[i32]) -> u64 {
     let d = domain_of(lo, hi, min, max);
     let mut sum: u64 = 0;
-    let mut i = 0;
-    while i < values.len() {
-        let c = domain::remove_all_but(d, Value(values[i]));
-        let e = c.domain;
-        let t = c.answer;
-        sum = plus(sum, outcome(t)) ^ bits(e);
-        i += 1;
+    for v in values {
+        let c = domain::remove_all_but(d, Value(*v));
+        sum = sum.wrapping_add(outcome(c.answer)) ^ bits(c.domain);
     }
     sum
 }
 
 pub fn bench_contains(lo: u64, hi: u64, min: i32, max: i32, values: &[i32]) -> u64 {
     let d = domain_of(lo, hi, min, max);
-    let mut sum: u64 = 0;
-    let mut i = 0;
-    while i < values.len() {
-        sum = plus(sum, told(domain::contains(d, Value(values[i]))));
-        i += 1;
-    }
-    sum
+    values.iter().fold(
+        0u64,
+        |sum, v| sum.wrapping_add(told(domain::contains(d, Value(*v)))),
+    )
 }
 
 // How many domains the four slices hold.
@@ -152,13 +127,7 @@ fn domains(lo: &[u64], hi: &[u64], min: &[i32], max: &[i32]) -> usize
     ensures { (result ≤ length lo.now) × (result ≤ length hi.now) × (result ≤ length min.now) × (result ≤ length max.now) }
 {
     let n = lo.len();
-    if hi.len() < n {
-        return 0;
-    }
-    if min.len() < n {
-        return 0;
-    }
-    if max.len() < n {
+    if hi.len() < n || min.len() < n || max.len() < n {
         return 0;
     }
     n
@@ -183,112 +152,80 @@ pub fn bench_contains_each(
         return 0;
     }
     let mut sum: u64 = 0;
-    let mut j = 0;
-    while j < n {
-        sum = plus(
-            sum,
-            told(domain::contains(at(lo, hi, min, max, j), Value(values[j]))),
-        );
-        j += 1;
+    for j in 0..n {
+        sum = sum.wrapping_add(told(domain::contains(at(lo, hi, min, max, j), Value(values[j]))));
+    }
+    sum
+}
+
+// The sum of what is answered about each domain.
+fn of_each<F: FnMut(BitDomain) -> u64>(
+    lo: &[u64],
+    hi: &[u64],
+    min: &[i32],
+    max: &[i32],
+    mut answer: F,
+) -> u64
+    requires { F.IsAlwaysCallable answer }
+{
+    let mut sum: u64 = 0;
+    for j in 0..domains(lo, hi, min, max) {
+        sum = sum.wrapping_add(answer(at(lo, hi, min, max, j)));
     }
     sum
 }
 
 pub fn bench_size(lo: &[u64], hi: &[u64], min: &[i32], max: &[i32]) -> u64 {
-    let n = domains(lo, hi, min, max);
-    let mut sum: u64 = 0;
-    let mut j = 0;
-    while j < n {
-        sum = plus(sum, counted(domain::size(at(lo, hi, min, max, j))));
-        j += 1;
-    }
-    sum
+    of_each(lo, hi, min, max, |d| counted(domain::size(d)))
 }
 
 pub fn bench_min(lo: &[u64], hi: &[u64], min: &[i32], max: &[i32]) -> u64 {
-    let n = domains(lo, hi, min, max);
-    let mut sum: u64 = 0;
-    let mut j = 0;
-    while j < n {
-        sum = plus(sum, found(domain::min(at(lo, hi, min, max, j))));
-        j += 1;
-    }
-    sum
+    of_each(lo, hi, min, max, |d| found(domain::min(d)))
 }
 
 pub fn bench_max(lo: &[u64], hi: &[u64], min: &[i32], max: &[i32]) -> u64 {
-    let n = domains(lo, hi, min, max);
-    let mut sum: u64 = 0;
-    let mut j = 0;
-    while j < n {
-        sum = plus(sum, found(domain::max(at(lo, hi, min, max, j))));
-        j += 1;
-    }
-    sum
+    of_each(lo, hi, min, max, |d| found(domain::max(d)))
 }
 
 pub fn bench_is_fixed(lo: &[u64], hi: &[u64], min: &[i32], max: &[i32]) -> u64 {
-    let n = domains(lo, hi, min, max);
-    let mut sum: u64 = 0;
-    let mut j = 0;
-    while j < n {
-        sum = plus(sum, told(domain::is_fixed(at(lo, hi, min, max, j))));
-        j += 1;
-    }
-    sum
+    of_each(lo, hi, min, max, |d| told(domain::is_fixed(d)))
 }
 
 // The values of one domain by a cursor: a mask has at most 128, so the walk has ended by then.
 fn walk(d: BitDomain) -> u64 {
-    let begun = domain_values::iter(d);
-    let Begun::Cursor(start) = begun else {
-        return 1000;
+    let Ok(mut cursor) = domain_values::iter(d) else {
+        return REFUSED;
     };
-    let mut cursor = start;
     let mut sum: u64 = 0;
-    let mut i: usize = 0;
-    while i < 129 {
+    for _ in 0..129 {
         let step = domain_values::next(cursor);
         cursor = step.cursor;
-        let answer = step.answer;
-        match answer {
-            Yielded::Next(v) => {
-                sum = plus(sum, distance(v));
+        match step.answer {
+            Ok(Some(v)) => {
+                sum = sum.wrapping_add(distance(v));
             }
-            Yielded::End => {
+            Ok(None) => {
                 return sum;
             }
-            Yielded::Refused(_) => {
-                return 1000;
+            Err(_) => {
+                return REFUSED;
             }
         }
-        i += 1;
     }
     sum
 }
 
 pub fn bench_iter(lo: &[u64], hi: &[u64], min: &[i32], max: &[i32]) -> u64 {
-    let n = domains(lo, hi, min, max);
-    let mut sum: u64 = 0;
-    let mut j = 0;
-    while j < n {
-        sum = plus(sum, walk(at(lo, hi, min, max, j)));
-        j += 1;
-    }
-    sum
+    of_each(lo, hi, min, max, walk)
 }
 
 // The values of each domain into the same cells.
 pub fn bench_to_vec(lo: &[u64], hi: &[u64], min: &[i32], max: &[i32], cells: &mut [i32]) -> u64 {
-    let n = domains(lo, hi, min, max);
-    let mut sum: u64 = 0;
-    let mut j = 0;
-    while j < n {
-        sum = plus(
-            sum,
-            counted(domain_values::to_vec(at(lo, hi, min, max, j), cells)),
-        );
-        j += 1;
-    }
-    sum
+    of_each(
+        lo,
+        hi,
+        min,
+        max,
+        |d| counted(domain_values::to_vec(d, cells)),
+    )
 }

@@ -1,11 +1,10 @@
-// What a script of calls is made of (differential/FORMAT.md): numbers as bytes, records, registers, answers, what stands behind an answer, what a
-// call leaves, and lent cells.
+// What a script of calls is made of (differential/FORMAT.md): numbers as bytes, records, registers, answers, what a call leaves, and the run
+// of a script.
 #![tactic(auto)]
 
-pub mod behind;
-pub mod lent;
 pub mod record;
 pub mod regs;
 pub mod reply;
+pub mod script;
 pub mod turn;
 pub mod wire;

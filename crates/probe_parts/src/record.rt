@@ -1,5 +1,5 @@
 // A record of a script: which call, on which registers, with which numbers.
-ghost use Rattle.std.specs.Prelude.{◌+◌, ◌<◌, ◌≤◌, length};
+ghost use Rattle.std.specs.Prelude.{◌<◌};
 
 use super::wire;
 
@@ -15,23 +15,22 @@ pub struct Record {
     pub n: usize,
     pub lo: u64,
     pub hi: u64,
+    ghost register_a: { a < 8 },
+    ghost register_b: { b < 8 },
 }
 
-// The record at `at`: the call, two registers of eight, two values, a count, and a mask.
-pub fn read(script: &[u8], at: usize) -> Record
-    requires { at + 32 ≤ length script.now }
-    ensures { (result.a < 8) × (result.b < 8) }
-{
-    let head = wire::word(script, at);
-    let tail = wire::word(script, at + 8);
+// The call, two registers of eight, two values, a count, and a mask.
+pub fn read(bytes: &[u8; SIZE]) -> Record {
+    let head = wire::word(bytes, 0);
+    let tail = wire::word(bytes, 8);
     Record {
         op: head % 256,
         a: (head / 256 % 8) as usize,
         b: (head / 65536 % 8) as usize,
         v: wire::signed(head >> 32),
         w: wire::signed(tail),
-        n: (tail / 4294967296) as usize,
-        lo: wire::word(script, at + 16),
-        hi: wire::word(script, at + 24),
+        n: (tail >> 32) as usize,
+        lo: wire::word(bytes, 16),
+        hi: wire::word(bytes, 24),
     }
 }

@@ -3,27 +3,50 @@ ghost use Rattle.std.specs.Prelude.{◌≡◌, ◌+◌, ◌≤◌, length};
 
 use super::regs::Register;
 use super::wire;
-use domain::{Counted, Found, Outcome, Told};
-use domain_pairs::{Kept, Masked};
-use domain_values::{BitCursor, Yielded};
+use domain::BitDomain;
+use domain_pairs::BitState;
+use domain_values::BitCursor;
 use mask::Mask;
-use rules::{Refusal, Value};
+use rules::{Pair, Refusal, Value, Variable};
 
 pub const SIZE: usize = 64;
 
-// What kind of answer it is with the refusal's number above it, a count, a value, and a mask.
+// What kind of answer it is, by its number in a script's answers.
+#[derive(Clone, Copy)]
+pub enum Kind {
+    Nothing = 0,
+    Done = 1,
+    Told = 2,
+    Counted = 3,
+    Found = 4,
+    Made = 5,
+    Masked = 6,
+    Kept = 7,
+    Begun = 8,
+    Next = 9,
+    NoMore = 10,
+    Pair = 11,
+    Bounds = 12,
+    IdsBegun = 13,
+    NextId = 14,
+    Refused = 255,
+}
+
+// The kind, a refusal's number, a count, a value, and a mask.
 #[derive(Clone, Copy)]
 pub struct Reply {
-    pub kind: u64,
+    pub kind: Kind,
+    pub refusal: u32,
     pub count: u64,
     pub value: u64,
     pub lo: u64,
     pub hi: u64,
 }
 
-pub fn plain(kind: u64) -> Reply {
+pub fn plain(kind: Kind) -> Reply {
     Reply {
         kind,
+        refusal: 0,
         count: 0,
         value: 0,
         lo: 0,
@@ -32,99 +55,143 @@ pub fn plain(kind: u64) -> Reply {
 }
 
 pub fn none() -> Reply {
-    plain(0)
+    plain(Kind::Nothing)
 }
 
-pub fn refused(r: Refusal) -> Reply {
+pub fn counted(kind: Kind, count: u64) -> Reply {
     Reply {
-        kind: 255 | ((r.number() as u64) << 8),
-        count: r.place() as u64,
-        value: 0,
-        lo: 0,
-        hi: 0,
+        count,
+        ..plain(kind)
     }
 }
 
-pub fn valued(kind: u64, v: Value) -> Reply {
-    let mut r = plain(kind);
-    r.value = wire::bits(v.0);
-    r
-}
-
-fn held(kind: u64, m: Mask) -> Reply {
-    let mut r = plain(kind);
-    r.lo = m.lo;
-    r.hi = m.hi;
-    r
-}
-
-pub fn outcome(o: Outcome) -> Reply {
-    match o {
-        Outcome::Done => plain(1),
-        Outcome::Refused(r) => refused(r),
+pub fn valued(kind: Kind, v: Value) -> Reply {
+    Reply {
+        value: wire::bits(v.0),
+        ..plain(kind)
     }
 }
 
-pub fn told(t: Told) -> Reply {
-    match t {
-        Told::Is(yes) => {
-            let mut r = plain(2);
-            if yes {
-                r.value = 1;
-            }
-            r
+fn masked(kind: Kind, m: Mask) -> Reply {
+    Reply {
+        lo: m.lo,
+        hi: m.hi,
+        ..plain(kind)
+    }
+}
+
+impl From<Refusal> for Reply {
+    fn from(r: Refusal) -> Reply {
+        Reply {
+            refusal: r.number(),
+            count: r.place() as u64,
+            ..plain(Kind::Refused)
         }
-        Told::Refused(r) => refused(r),
     }
 }
 
-pub fn counted(c: Counted) -> Reply {
-    match c {
-        Counted::Count(n) => {
-            let mut r = plain(3);
-            r.count = n as u64;
-            r
+impl<T: Into<Reply>> From<Result<T, Refusal>> for Reply {
+    fn from(answer: Result<T, Refusal>) -> Reply {
+        match answer {
+            Ok(x) => x.into(),
+            Err(r) => r.into(),
         }
-        Counted::Refused(r) => refused(r),
     }
 }
 
-pub fn found(f: Found) -> Reply {
-    match f {
-        Found::At(v) => valued(4, v),
-        Found::Refused(r) => refused(r),
+impl From<()> for Reply {
+    fn from(_: ()) -> Reply {
+        plain(Kind::Done)
     }
 }
 
-pub fn masked(m: Masked) -> Reply {
-    match m {
-        Masked::Bits(b) => held(6, b),
-        Masked::Refused(r) => refused(r),
-    }
-}
-
-pub fn kept(k: Kept) -> Reply {
-    match k {
-        Kept::State(s) => {
-            let mut r = held(7, s.mask);
-            r.count = s.size as u64;
-            r
+impl From<bool> for Reply {
+    fn from(yes: bool) -> Reply {
+        Reply {
+            value: u64::from(yes),
+            ..plain(Kind::Told)
         }
-        Kept::Refused(r) => refused(r),
     }
 }
 
-pub fn walk(c: BitCursor) -> Reply {
-    let mut r = held(8, c.mask);
-    r.value = wire::bits(c.min);
-    r
+impl From<usize> for Reply {
+    fn from(n: usize) -> Reply {
+        counted(Kind::Counted, n as u64)
+    }
 }
 
-pub fn yielded(y: Yielded) -> Reply {
-    match y {
-        Yielded::Next(v) => valued(9, v),
-        Yielded::End => plain(10),
-        Yielded::Refused(r) => refused(r),
+impl From<Value> for Reply {
+    fn from(v: Value) -> Reply {
+        valued(Kind::Found, v)
+    }
+}
+
+impl From<Option<Value>> for Reply {
+    fn from(next: Option<Value>) -> Reply {
+        match next {
+            Some(v) => valued(Kind::Next, v),
+            None => plain(Kind::NoMore),
+        }
+    }
+}
+
+// A domain stands in the register that the answer shows.
+impl From<BitDomain> for Reply {
+    fn from(_: BitDomain) -> Reply {
+        plain(Kind::Made)
+    }
+}
+
+impl From<Mask> for Reply {
+    fn from(m: Mask) -> Reply {
+        masked(Kind::Masked, m)
+    }
+}
+
+impl From<BitState> for Reply {
+    fn from(s: BitState) -> Reply {
+        Reply {
+            count: s.size as u64,
+            ..masked(Kind::Kept, s.mask)
+        }
+    }
+}
+
+impl From<BitCursor> for Reply {
+    fn from(c: BitCursor) -> Reply {
+        Reply {
+            value: wire::bits(c.min),
+            ..masked(Kind::Begun, c.mask)
+        }
+    }
+}
+
+impl From<Pair> for Reply {
+    fn from(p: Pair) -> Reply {
+        Reply {
+            count: u64::from(p.consistent),
+            value: u64::from(p.changed),
+            ..plain(Kind::Pair)
+        }
+    }
+}
+
+// The smallest and the largest value.
+impl From<(Value, Value)> for Reply {
+    fn from((min, max): (Value, Value)) -> Reply {
+        Reply {
+            lo: wire::bits(max.0),
+            ..valued(Kind::Bounds, min)
+        }
+    }
+}
+
+impl From<Option<Variable>> for Reply {
+    fn from(next: Option<Variable>) -> Reply {
+        match next {
+            Some(id) => counted(Kind::NextId, id.0 as u64),
+            None => plain(Kind::NoMore),
+        }
     }
 }
 
@@ -134,7 +201,7 @@ pub fn write(op: u64, r: Reply, left: Register, out: &mut [u8], at: usize)
     ensures { length out.new ≡ length out.old }
 {
     let words = [
-        op | (r.kind << 8),
+        op | ((r.kind as u64) << 8) | ((r.refusal as u64) << 16),
         r.count,
         r.value,
         r.lo,

@@ -1,8 +1,8 @@
 // What a call does to the register that it is about: what that holds afterwards, and the answer.
 use super::regs::Register;
 use super::reply::Reply;
-use super::{regs, reply};
-use domain_values::{Begun, Stepped};
+use domain_values::Stepped;
+use rules::Refusal;
 
 #[derive(Clone, Copy)]
 pub struct Turn {
@@ -14,16 +14,17 @@ pub fn after(left: Register, reply: Reply) -> Turn {
     Turn { left, reply }
 }
 
-// A refused call leaves the register as it was.
-pub fn begun(b: Begun, old: Register) -> Turn {
-    match b {
-        Begun::Cursor(c) => after(regs::of_cursor(c), reply::walk(c)),
-        Begun::Refused(r) => after(old, reply::refused(r)),
+// The register holds what was made; a refused call leaves it as it was.
+pub fn made<T: Copy + Into<Register> + Into<Reply>>(
+    answer: Result<T, Refusal>,
+    old: Register,
+) -> Turn {
+    match answer {
+        Ok(x) => after(x.into(), x.into()),
+        Err(r) => after(old, r.into()),
     }
 }
 
 pub fn stepped(s: Stepped) -> Turn {
-    let c = s.cursor;
-    let answer = s.answer;
-    after(regs::of_cursor(c), reply::yielded(answer))
+    after(s.cursor.into(), s.answer.into())
 }

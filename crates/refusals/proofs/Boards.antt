@@ -1,5 +1,7 @@
 -- Every call of the board is refused as 01's table says, and then hands back the board and the lent cells as it was given them.
-use Rattle.std.specs.Prelude.{◌≡◌, refl, Bool, true, false, cond, List, map, ℕ, eqb, leb, ltb, ℤ, length}
+use Rattle.std.specs.Prelude.{◌≡◌, refl, Bool, true, false, cond, List, map, ℕ, eqb, leb, ltb, ℤ, length, Result}
+use Rattle.rules.specs.declared.Pair.{Pair}
+use Rattle.std.specs.declared.result.Result.TheVariants.{Ok, Err}
 use Rattle.std.proofs.Common.{sym, ap, ◌∙◌, arith}
 use Rattle.rules.specs.Sets.{Chutes, Different}
 use Rattle.rules.specs.Pass.{pass, Fits}
@@ -28,7 +30,6 @@ use Rattle.batch.proofs.Theorems.{batch-refuses}
 use Rattle.board_enter.specs.Enter.{enter_of}
 use Rattle.board_enter.proofs.Theorems.{enter-refuses}
 use Rattle.board_spread.specs.declared.Spread.{Spread}
-use Rattle.board_spread.specs.declared.Pair.TheVariants as pair
 use Rattle.board_spread.specs.Spread.{spread_of, pair_of}
 use Rattle.board_spread.proofs.Theorems.{spread-refuses}
 use Rattle.board_spread.proofs.Spreading.{spread-refused, spread-accepted}
@@ -36,13 +37,11 @@ use Rattle.board_ask.specs.Answers.{count_of, chute_of, ends_told, held_by}
 use Rattle.board_ask.specs.Questions.{get_into_of}
 use Rattle.board_ask.specs.Names.{Filled, next_id_of, ids_into_of}
 use Rattle.board_ask.specs.declared.IdCursor.{IdCursor}
-use Rattle.board_ask.specs.declared.Named.TheVariants as named
 use Rattle.board_ask.proofs.Theorems.{size-refuses, assigned-refuses, value-refuses, inconsistent-refuses, bounds-refuses, values-refuses, variables-refuses, ready-refuses, into-refuses, into-writes, ids-refuses, ids-write}
 use Rattle.trial.specs.Marks.{marked, restored, released, mark_of, restore_of, keep_of}
 use Rattle.trial.proofs.Theorems.{mark-refuses, restore-refuses, keep-refuses}
 use Rattle.domain.specs.declared.BitDomain.{BitDomain}
 use Rattle.domain.specs.Calls.{new_of}
-use Rattle.domain.specs.declared.Counted.TheVariants as counted
 use Rattle.domain_values.specs.Calls.{Written, from_values_of}
 use Rattle.demand.specs.Script.{Made, close, batch, add, add_values, mark, restore, keep, reset_changed_flag, domains_changed, propagate, ready, variables, domain_size, is_assigned, assigned_value, is_inconsistent, get_bounds, get_domain_values, call_of, board_of, walked, answer_of}
 use Rattle.demand.proofs.Demand.{made-obeys}
@@ -172,7 +171,7 @@ module _ (b : Board) where
       ∙ rw w (enough (length cells) n (λ h k. rw (h, k)) (λ h k. rw (h, k))))
       (λ w. ap (λ (r : Written). of_counted r.answer) (into-refuses b w id cells) ∙ rw w)
 
-  pub into-same : (id : Variable) (cells : List ℤ) (r : Refusal) → (get_into_of b id cells).answer ≡ counted.Refused r → (get_into_of b id cells).cells ≡ cells
+  pub into-same : (id : Variable) (cells : List ℤ) (r : Refusal) → (get_into_of b id cells).answer ≡ Err r → (get_into_of b id cells).cells ≡ cells
   into-same id cells r e =
       let n = length (rules.domain (view b).now id.0) in
       split (well_board b)
@@ -188,7 +187,7 @@ module _ (b : Board) where
       ∙ rw w (enough (length cells) (length (rules.ids (view b).now)) (λ h k. rw (h, k)) (λ h k. rw (h, k))))
       (λ w. ap (λ (r : Filled). of_counted r.answer) (ids-refuses b w (record { 0 = 0 }) cells) ∙ rw w)
 
-  pub ids-same : (cells : List ℕ) (r : Refusal) → (ids_into_of b cells).answer ≡ counted.Refused r → (ids_into_of b cells).cells ≡ cells
+  pub ids-same : (cells : List ℕ) (r : Refusal) → (ids_into_of b cells).answer ≡ Err r → (ids_into_of b cells).cells ≡ cells
   ids-same cells r e =
       split (well_board b)
       (λ w. let f = ids-write b w cells in
@@ -201,7 +200,7 @@ module _ (b : Board) where
   unfolding next_id_of
   next-exactly c = split (well_board b) (λ w. rw w (split (leb b.count c.at) (λ h. rw h) (λ h. rw h))) (λ w. rw w)
 
-  pub next-same : (c : IdCursor) (r : Refusal) → (next_id_of b c).answer ≡ named.Refused r → (next_id_of b c).cursor ≡ c
+  pub next-same : (c : IdCursor) (r : Refusal) → (next_id_of b c).answer ≡ Err r → (next_id_of b c).cursor ≡ c
   unfolding next_id_of
   next-same c r e =
       split (well_board b)
@@ -210,20 +209,24 @@ module _ (b : Board) where
 
 -- ---- demand 3: an answer of not consistent
 
+abbrev consistent_of : Result Pair Refusal → Bool
+consistent_of (Ok p) = p.consistent
+consistent_of (Err r) = true
+
 -- a propagation that answers inconsistent, on any board: the listed destinations' own domains hold no choice of different chutes, whatever the
 -- other destinations hold
-pub list-refuted : (b : Board) (is : List ℕ) (y : Bool) → (spread_of b is).answer ≡ pair.Is y false → (xs : List ℤ) → Different xs → Fits (map (held_at b.rows) (map (seat b) is)) xs → ⊥
+pub list-refuted : (b : Board) (is : List ℕ) (y : Bool) → (spread_of b is).answer ≡ Ok (record { changed = y; consistent = false }) → (xs : List ℤ) → Different xs → Fits (map (held_at b.rows) (map (seat b) is)) xs → ⊥
 list-refuted b is y e xs d f = split (well_board b) (λ w. judged w (rules.listing is (view b).now) refl) (λ w. denied (ap (λ (s : Spread). s.answer) (spread-refuses b is w)))
   where
     ds : List Chutes
     ds = map (held_at b.rows) (map (seat b) is)
 
-    denied : {r : Refusal} → (spread_of b is).answer ≡ pair.Refused r → ⊥
+    denied : {r : Refusal} → (spread_of b is).answer ≡ Err r → ⊥
     denied g = let z : ◌≡◌ {A = ℕ} 0 1 = cc in omega arith
 
     judged : well_board b ≡ true → (v : Verdict) → rules.listing is (view b).now ≡ v → ⊥
     judged w accepted k =
         let g = ap (λ (s : Spread). s.answer) (spread-accepted b is w k) in
-        let z : (pass ds).consistent ≡ false = cc in
+        let z : (pass ds).consistent ≡ false = ap consistent_of (sym g ∙ e) in
         pass-refutes ds (rw z tt) xs d f
     judged w (refused r) k = denied (ap (λ (s : Spread). s.answer) (spread-refused b is w r k))

@@ -1,5 +1,7 @@
 -- Every call on sparse sets is refused as 01's table says, and then hands back what it was given.
-use Rattle.std.specs.Prelude.{◌≡◌, refl, not, ◌&&◌, List, [], ◌∷◌, ◌↔◌, ℕ, ◌≤◌, eqb, leb, ltb, length}
+use Rattle.std.specs.Prelude.{◌≡◌, refl, not, ◌&&◌, List, [], ◌∷◌, ◌↔◌, ℕ, ◌≤◌, eqb, leb, ltb, length, Result, Option}
+use Rattle.std.specs.declared.result.Result.TheVariants.{Ok, Err}
+use Rattle.std.specs.declared.option.Option.TheVariants.{None, Some}
 use Rattle.std.specs.Int.Signed.{lt_z}
 use Rattle.std.proofs.Common.{◌∙◌, arith, le-leb, ltb-false, le-ltb}
 use Rattle.ends.specs.Ends.{smallest_of, largest_of}
@@ -8,15 +10,12 @@ use Rattle.rules.specs.Board.{Verdict, accepted, refused, unless}
 use Rattle.rules.specs.declared.Refusal.{Refusal}
 use Rattle.rules.specs.declared.Value.{Value}
 use Rattle.rules.specs.declared.Refusal.TheVariants.{Empty, NoRoom, BadState}
-use Rattle.sparse_inner.specs.declared.Verdict as inner
-use Rattle.sparse_inner.specs.declared.Verdict.TheVariants.{Fine, Refused}
 use Rattle.sparse_inner.specs.Set.{Full, fits_b, narrow_b, room_b, sound_b, verdict_of, both_of}
 use Rattle.sparse.specs.Calls.{size_of, is_empty_of, is_fixed_of, contains_of, min_of, max_of, first_of, last_of, universe_size_of, min_universe_of, max_universe_of, complement_size_of, use_complement_of, save_of, remove_of, remove_all_of, remove_all_but_of, remove_below_of, remove_above_of, restore_of}
 use Rattle.sparse_make.specs.Calls.{room_for, between_of, new_of, new_unchecked_of, from_values_of}
 use Rattle.sparse_pairs.specs.Calls.{part_of, union_of, is_subset_of, equals_of}
 use Rattle.sparse_values.specs.declared.HeldCursor.{HeldCursor}
 use Rattle.sparse_values.specs.declared.ComplementCursor.{ComplementCursor}
-use Rattle.sparse_values.specs.declared.Yielded.TheVariants as yielded
 use Rattle.sparse_values.specs.Calls.{past_held, next_of, complement_next_of, to_vec_of}
 use Rattle.sparse_text.specs.Text.{text_of, write_text_of}
 use Rattle.refusals.specs.Sparses.{Ask, size, is_empty, is_fixed, min, max, first, last, universe_size, min_universe, max_universe, complement_size, use_complement, save, contains, is_subset, equals, Change, remove, remove_all_but, remove_below, remove_above, remove_all, restore, part, union, next, complement_next, to_vec, write_text, new, new_unchecked, from_values, asked, changed, checked, both_checked, roomy, ask_table, change_table, given, handed}
@@ -24,9 +23,9 @@ use Rattle.refusals.proofs.Reading.{taken, split, enough}
 
 -- ---- the verdict on what a call is lent, as the table has it
 
-abbrev judged : inner.Verdict → Verdict → Verdict
-judged Fine v = v
-judged (Refused r) v = refused r
+abbrev judged : Result Unit Refusal → Verdict → Verdict
+judged (Ok tt) v = v
+judged (Err r) v = refused r
 
 verdict-is : (f : Full) (v : Verdict) → judged (verdict_of f) v ≡ checked f v
 unfolding verdict_of
@@ -50,9 +49,9 @@ room-is n ind val =
     (λ a. rw a)
 
 -- by what the verdict is
-decide : {A : Type 0} (j : inner.Verdict) → (j ≡ Fine → A) → ((r : Refusal) → j ≡ Refused r → A) → A
-decide Fine h k = h refl
-decide (Refused r) h k = k r refl
+decide : {A : Type 0} (j : Result Unit Refusal) → (j ≡ Ok tt → A) → ((r : Refusal) → j ≡ Err r → A) → A
+decide (Ok tt) h k = h refl
+decide (Err r) h k = k r refl
 
 pub asks-exactly : (c : Ask) → asked c ≡ ask_table c
 unfolding size_of is_empty_of is_fixed_of contains_of min_of max_of first_of last_of universe_size_of min_universe_of max_universe_of complement_size_of use_complement_of save_of is_subset_of equals_of
@@ -135,11 +134,11 @@ refused-same (from_values (v ∷ vs) ind val) r e =
 -- ---- the end of a walk
 
 -- a cursor that yields a value hasn't ended
-going : {v : Value} → yielded.Next v ≡ yielded.End → ⊥
-going e = let z : ◌≡◌ {A = ℕ} 0 1 = cc in omega arith
+going : {v : Value} → ◌≡◌ {A = Result (Option Value) Refusal} (Ok (Some v)) (Ok None) → ⊥
+going e = absurd (cc)
 
 -- a cursor over a well-formed set has ended exactly at or past the size
-pub ended-exactly : (f : Full) (c : HeldCursor) → verdict_of f ≡ Fine → ((next_of f c).answer ≡ yielded.End) ↔ (f.set.size ≤ c.at)
+pub ended-exactly : (f : Full) (c : HeldCursor) → verdict_of f ≡ Ok tt → ((next_of f c).answer ≡ Ok None) ↔ (f.set.size ≤ c.at)
 unfolding next_of
 ended-exactly f c w = (
   λ e. split (ltb c.at f.set.size) (λ h. absurd (going (rw (w, h) at e))) (λ h. ltb-false c.at f.set.size h),
@@ -147,7 +146,7 @@ ended-exactly f c w = (
 )
 
 -- one over what isn't held, exactly at or past n, a place among the held cells standing for the first that isn't; and it is handed back as it came
-pub complement-ended-exactly : (f : Full) (c : ComplementCursor) → verdict_of f ≡ Fine → (((complement_next_of f c).answer ≡ yielded.End) ↔ (f.set.n ≤ past_held f.set.size c.at)) × ((complement_next_of f c).answer ≡ yielded.End → (complement_next_of f c).cursor ≡ c)
+pub complement-ended-exactly : (f : Full) (c : ComplementCursor) → verdict_of f ≡ Ok tt → (((complement_next_of f c).answer ≡ Ok None) ↔ (f.set.n ≤ past_held f.set.size c.at)) × ((complement_next_of f c).answer ≡ Ok None → (complement_next_of f c).cursor ≡ c)
 unfolding complement_next_of
 complement-ended-exactly f c w = (
   (

@@ -1,5 +1,8 @@
 -- The calls on bit domains: what each answers as a verdict, what it hands back, and 01's table for it.
-use Rattle.std.specs.Prelude.{Bool, ◌&&◌, List, leb, ℤ, length, ℕ}
+use Rattle.std.specs.Prelude.{Bool, ◌&&◌, List, leb, ℤ, length, ℕ, Result, Option}
+use Rattle.std.specs.declared.result.Result.TheVariants.{Ok, Err}
+use Rattle.std.specs.declared.option.Option.TheVariants.{None, Some}
+use Rattle.rules.specs.declared.Refusal.{Refusal}
 use Rattle.mask.specs.declared.Mask.{Mask}
 use Rattle.ends.specs.Ends.{smallest_of, largest_of}
 use Rattle.offset.specs.Places.{span_of}
@@ -8,29 +11,11 @@ use Rattle.rules.specs.Board.{Kind, single, Verdict, accepted, refused, unless}
 use Rattle.rules.specs.declared.Refusal.TheVariants.{Broken, TooWide, Empty, BadState, OtherUniverse, NoRoom}
 use Rattle.rules.specs.declared.Value.{Value}
 use Rattle.domain.specs.declared.BitDomain.{BitDomain}
-use Rattle.domain.specs.declared.Made.{Made}
-use Rattle.domain.specs.declared.Made.TheVariants as made
-use Rattle.domain.specs.declared.Told.{Told}
-use Rattle.domain.specs.declared.Told.TheVariants as told
-use Rattle.domain.specs.declared.Counted.{Counted}
-use Rattle.domain.specs.declared.Counted.TheVariants as counted
-use Rattle.domain.specs.declared.Found.{Found}
-use Rattle.domain.specs.declared.Found.TheVariants as found
-use Rattle.domain.specs.declared.Outcome.{Outcome}
-use Rattle.domain.specs.declared.Outcome.TheVariants as outcome
 use Rattle.domain.specs.Set.{set_of, well}
 use Rattle.domain.specs.Calls.{ordered, try_new_of, is_invalid_of, contains_of, size_of, is_empty_of, is_fixed_of, fixed_value_of, min_of, max_of, universe_size_of, min_universe_of, max_universe_of, insert_of, remove_of, remove_all_of, close_of}
 use Rattle.domain_pairs.specs.declared.BitState.{BitState}
-use Rattle.domain_pairs.specs.declared.Masked.{Masked}
-use Rattle.domain_pairs.specs.declared.Masked.TheVariants as masked
-use Rattle.domain_pairs.specs.declared.Kept.{Kept}
-use Rattle.domain_pairs.specs.declared.Kept.TheVariants as kept
 use Rattle.domain_pairs.specs.Calls.{same_bounds, fits, intersect_of, union_of, is_subset_of, equals_of, union_mask_of, remove_by_mask_of, get_mask_of, save_state_of, restore_mask_of, restore_state_of}
 use Rattle.domain_values.specs.declared.BitCursor.{BitCursor}
-use Rattle.domain_values.specs.declared.Begun.{Begun}
-use Rattle.domain_values.specs.declared.Begun.TheVariants as begun
-use Rattle.domain_values.specs.declared.Yielded.{Yielded}
-use Rattle.domain_values.specs.declared.Yielded.TheVariants as yielded
 use Rattle.domain_values.specs.Calls.{well_cursor, iter_of, next_of, left_of, to_vec_of, try_from_values_of}
 use Rattle.domain_text.specs.Text.{text_of, write_text_of}
 
@@ -60,42 +45,42 @@ pub data Change : Type 0 where
 
 -- ---- whether an answer is a refusal, and which
 
-abbrev pub of_made : Made → Verdict
-of_made (made.Domain d) = accepted
-of_made (made.Refused r) = refused r
+abbrev pub of_made : Result BitDomain Refusal → Verdict
+of_made (Ok d) = accepted
+of_made (Err r) = refused r
 
-abbrev pub of_told : Told → Verdict
-of_told (told.Is y) = accepted
-of_told (told.Refused r) = refused r
+abbrev pub of_told : Result Bool Refusal → Verdict
+of_told (Ok y) = accepted
+of_told (Err r) = refused r
 
-abbrev pub of_counted : Counted → Verdict
-of_counted (counted.Count n) = accepted
-of_counted (counted.Refused r) = refused r
+abbrev pub of_counted : Result ℕ Refusal → Verdict
+of_counted (Ok n) = accepted
+of_counted (Err r) = refused r
 
-abbrev pub of_found : Found → Verdict
-of_found (found.At v) = accepted
-of_found (found.Refused r) = refused r
+abbrev pub of_found : Result Value Refusal → Verdict
+of_found (Ok v) = accepted
+of_found (Err r) = refused r
 
-abbrev pub of_outcome : Outcome → Verdict
-of_outcome outcome.Done = accepted
-of_outcome (outcome.Refused r) = refused r
+abbrev pub of_outcome : Result Unit Refusal → Verdict
+of_outcome (Ok tt) = accepted
+of_outcome (Err r) = refused r
 
-abbrev pub of_masked : Masked → Verdict
-of_masked (masked.Bits m) = accepted
-of_masked (masked.Refused r) = refused r
+abbrev pub of_masked : Result Mask Refusal → Verdict
+of_masked (Ok m) = accepted
+of_masked (Err r) = refused r
 
-abbrev pub of_kept : Kept → Verdict
-of_kept (kept.State s) = accepted
-of_kept (kept.Refused r) = refused r
+abbrev pub of_kept : Result BitState Refusal → Verdict
+of_kept (Ok s) = accepted
+of_kept (Err r) = refused r
 
-abbrev pub of_begun : Begun → Verdict
-of_begun (begun.Cursor c) = accepted
-of_begun (begun.Refused r) = refused r
+abbrev pub of_begun : Result BitCursor Refusal → Verdict
+of_begun (Ok c) = accepted
+of_begun (Err r) = refused r
 
-abbrev pub of_yielded : Yielded → Verdict
-of_yielded (yielded.Next v) = accepted
-of_yielded yielded.End = accepted
-of_yielded (yielded.Refused r) = refused r
+abbrev pub of_yielded : Result (Option Value) Refusal → Verdict
+of_yielded (Ok (Some v)) = accepted
+of_yielded (Ok None) = accepted
+of_yielded (Err r) = refused r
 
 -- of what the contract says that the call answers
 abbrev pub asked : Ask → Verdict

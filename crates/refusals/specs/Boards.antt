@@ -1,12 +1,13 @@
 -- The board's answers as verdicts, and the leftmost place of a list at which something is amiss. `Made` (demand) lists the board's calls, and
 -- `refusal` (rules) is 01's table for them.
-use Rattle.std.specs.Prelude.{◌≡◌, true, false, List, ◌⊎◌, length, get_or, take, ℕ, ◌<◌, ◌≤◌}
+use Rattle.std.specs.Prelude.{◌≡◌, true, false, List, ◌⊎◌, length, get_or, take, ℕ, ◌<◌, ◌≤◌, Result, Option}
+use Rattle.std.specs.declared.result.Result.TheVariants.{Ok, Err}
+use Rattle.std.specs.declared.option.Option.TheVariants.{None, Some}
+use Rattle.rules.specs.declared.Variable.{Variable}
 use Rattle.rules.specs.Board.{Verdict, accepted, refused}
 use Rattle.rules.specs.Board as rules
 use Rattle.rules.specs.declared.Refusal.{Refusal}
 use Rattle.rules.specs.declared.Refusal.TheVariants.{Unknown, Repeated}
-use Rattle.board_ask.specs.declared.Named.{Named}
-use Rattle.board_ask.specs.declared.Named.TheVariants as named
 
 -- whether an answer of the rules' is a refusal, and which
 abbrev pub of_answer : rules.Answer → Verdict
@@ -21,10 +22,10 @@ of_answer (rules.named is) = accepted
 of_answer (rules.denied r) = refused r
 
 -- and a step of the cursor over ids
-abbrev pub of_named : Named → Verdict
-of_named (named.Next v) = accepted
-of_named named.End = accepted
-of_named (named.Refused r) = refused r
+abbrev pub of_named : Result (Option Variable) Refusal → Verdict
+of_named (Ok (Some v)) = accepted
+of_named (Ok None) = accepted
+of_named (Err r) = refused r
 
 -- the id at place p is registered, and stood at none of the places before
 pub record Fine (rs : rules.Rows) (is : List ℕ) (p : ℕ) : Type 0 where

@@ -1,5 +1,9 @@
 -- The calls on sparse sets: what each answers as a verdict, what it hands back, and 01's table for it.
-use Rattle.std.specs.Prelude.{Bool, not, ◌&&◌, cond, List, eqb, leb, ℤ, length, ℕ}
+use Rattle.std.specs.Prelude.{Bool, not, ◌&&◌, cond, List, eqb, leb, ℤ, length, ℕ, Result, Option}
+use Rattle.std.specs.declared.result.Result.TheVariants.{Ok, Err}
+use Rattle.std.specs.declared.option.Option.TheVariants.{None, Some}
+use Rattle.rules.specs.declared.Refusal.{Refusal}
+use Rattle.sparse_inner.specs.declared.Sparse.{Sparse}
 use Rattle.std.specs.Int.Signed.{lt_z}
 use Rattle.ends.specs.Ends.{smallest_of, largest_of}
 use Rattle.offset.specs.Places.{span_of}
@@ -9,25 +13,11 @@ use Rattle.rules.specs.declared.Refusal.TheVariants.{Broken, TooWide, Short, Emp
 use Rattle.rules.specs.declared.Value.{Value}
 use Rattle.sparse_inner.specs.declared.SparseState.{SparseState}
 use Rattle.sparse_inner.specs.Set.{Full, fits_b, narrow_b, room_b, sound_b}
-use Rattle.sparse.specs.declared.Told.{Told}
-use Rattle.sparse.specs.declared.Told.TheVariants as told
-use Rattle.sparse.specs.declared.Counted.{Counted}
-use Rattle.sparse.specs.declared.Counted.TheVariants as counted
-use Rattle.sparse.specs.declared.Found.{Found}
-use Rattle.sparse.specs.declared.Found.TheVariants as found
-use Rattle.sparse.specs.declared.Outcome.{Outcome}
-use Rattle.sparse.specs.declared.Outcome.TheVariants as outcome
-use Rattle.sparse.specs.declared.Kept.{Kept}
-use Rattle.sparse.specs.declared.Kept.TheVariants as kept
 use Rattle.sparse.specs.Calls.{size_of, is_empty_of, is_fixed_of, contains_of, min_of, max_of, first_of, last_of, universe_size_of, min_universe_of, max_universe_of, complement_size_of, use_complement_of, save_of, remove_of, remove_all_of, remove_all_but_of, remove_below_of, remove_above_of, restore_of}
-use Rattle.sparse_make.specs.declared.Made.{Made}
-use Rattle.sparse_make.specs.declared.Made.TheVariants as made
 use Rattle.sparse_make.specs.Calls.{new_of, new_unchecked_of, from_values_of}
 use Rattle.sparse_pairs.specs.Calls.{part_of, union_of, is_subset_of, equals_of}
 use Rattle.sparse_values.specs.declared.HeldCursor.{HeldCursor}
 use Rattle.sparse_values.specs.declared.ComplementCursor.{ComplementCursor}
-use Rattle.sparse_values.specs.declared.Yielded.{Yielded}
-use Rattle.sparse_values.specs.declared.Yielded.TheVariants as yielded
 use Rattle.sparse_values.specs.Calls.{next_of, complement_next_of, to_vec_of}
 use Rattle.sparse_text.specs.Text.{text_of, write_text_of}
 
@@ -55,34 +45,34 @@ pub data Change : Type 0 where
 
 -- ---- whether an answer is a refusal, and which
 
-abbrev pub of_made : Made → Verdict
-of_made (made.Set s) = accepted
-of_made (made.Refused r) = refused r
+abbrev pub of_made : Result Sparse Refusal → Verdict
+of_made (Ok s) = accepted
+of_made (Err r) = refused r
 
-abbrev pub of_told : Told → Verdict
-of_told (told.Is y) = accepted
-of_told (told.Refused r) = refused r
+abbrev pub of_told : Result Bool Refusal → Verdict
+of_told (Ok y) = accepted
+of_told (Err r) = refused r
 
-abbrev pub of_counted : Counted → Verdict
-of_counted (counted.Count n) = accepted
-of_counted (counted.Refused r) = refused r
+abbrev pub of_counted : Result ℕ Refusal → Verdict
+of_counted (Ok n) = accepted
+of_counted (Err r) = refused r
 
-abbrev pub of_found : Found → Verdict
-of_found (found.At v) = accepted
-of_found (found.Refused r) = refused r
+abbrev pub of_found : Result Value Refusal → Verdict
+of_found (Ok v) = accepted
+of_found (Err r) = refused r
 
-abbrev pub of_outcome : Outcome → Verdict
-of_outcome outcome.Done = accepted
-of_outcome (outcome.Refused r) = refused r
+abbrev pub of_outcome : Result Unit Refusal → Verdict
+of_outcome (Ok tt) = accepted
+of_outcome (Err r) = refused r
 
-abbrev pub of_kept : Kept → Verdict
-of_kept (kept.State s) = accepted
-of_kept (kept.Refused r) = refused r
+abbrev pub of_kept : Result SparseState Refusal → Verdict
+of_kept (Ok s) = accepted
+of_kept (Err r) = refused r
 
-abbrev pub of_yielded : Yielded → Verdict
-of_yielded (yielded.Next v) = accepted
-of_yielded yielded.End = accepted
-of_yielded (yielded.Refused r) = refused r
+abbrev pub of_yielded : Result (Option Value) Refusal → Verdict
+of_yielded (Ok (Some v)) = accepted
+of_yielded (Ok None) = accepted
+of_yielded (Err r) = refused r
 
 -- of what the contract says that the call answers
 abbrev pub asked : Ask → Verdict

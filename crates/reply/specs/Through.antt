@@ -1,8 +1,10 @@
 -- A call on a board that stands in lent words: the words are read as a board, the by-value call is made, and the board that it hands
 -- back is written. Words that are too few, or that aren't the writing of a well-formed board, come back as they came.
-use Rattle.std.specs.Prelude.{Bool, ◌&&◌, cond, List, ◌++◌, ℕ, ltb, length, drop}
+use Rattle.std.specs.Prelude.{◌≡◌, Bool, false, ◌&&◌, cond, List, ◌++◌, ℕ, ltb, length, drop, Result}
+use Rattle.std.specs.declared.result.Result.TheVariants.{Ok, Err}
 use Rattle.rules.specs.Board as rules
-use Rattle.rules.specs.declared.Refusal.TheVariants.{NoRoom}
+use Rattle.rules.specs.declared.Refusal.{Refusal}
+use Rattle.rules.specs.declared.Refusal.TheVariants.{Broken, NoRoom}
 use Rattle.board.specs.Well.{well_board}
 use Rattle.board.specs.Obeys.{told_of, outcome_of}
 use Rattle.board.specs.declared.Board.{Board}
@@ -49,6 +51,10 @@ written ws r = lent.written boards ws r
 abbrev pub through : (Board → Reply) → List ℕ → Left (List ℕ)
 through f ws = lent.through boards f ws
 
+-- what every by-value call does with a board that isn't well formed
+abbrev pub Guarded : (Board → Reply) → Type 0
+Guarded f = (b : Board) → well_board b ≡ false → f b ≡ record { state = b; answer = rules.denied Broken }
+
 -- a new board is written whatever the words are
 unfoldable pub begun : Board → List ℕ → Left (List ℕ)
 begun b ws = cond (ltb (length ws) size) (left (coded (rules.denied NoRoom)) ws) (written ws (record { state = b; answer = rules.done }))
@@ -58,10 +64,13 @@ begun b ws = cond (ltb (length ws) size) (left (coded (rules.denied NoRoom)) ws)
 abbrev pub answered : (Board → rules.Answer) → List ℕ → ℕ
 answered f ws = lent.answered boards f ws
 
+abbrev pub Refuses : (Board → rules.Answer) → Type 0
+Refuses f = (b : Board) → well_board b ≡ false → f b ≡ rules.denied Broken
+
 abbrev pub shown : {C : Type 0} → (Board → Left C) → List ℕ → C → Left C
 shown f ws cells = lent.shown boards f ws cells
 
 -- ---- the first test of the code
 
-abbrev pub judge_of : List ℕ → ℕ
-judge_of ws = cond (ltb (length ws) size) 14 (cond (fits_of ws) 0 1)
+abbrev pub judge_of : List ℕ → Result Unit Refusal
+judge_of ws = cond (ltb (length ws) size) (Err NoRoom) (cond (fits_of ws) (Ok tt) (Err Broken))

@@ -2,7 +2,7 @@
 // board's. The code is in specs/Told, and what a call does with the words it is lent in specs/Through.
 //
 // refusal, said, count, chute; told, outcome, counted, found, pair: of the by-value calls' answers; judge
-#![tactic(auto)]
+#![tactic(auto, unfolding(crate::specs::Told::coded))]
 
 ghost use Rattle.std.specs.Prelude.{◌≡◌};
 ghost use Rattle.rules.specs.Board as rules;
@@ -13,9 +13,7 @@ ghost use Rattle.state.specs.Typed.{Words};
 ghost use Rattle.reply.specs.Told.{packed, coded};
 ghost use Rattle.reply.specs.Through.{judge_of};
 
-use board_spread::Pair;
-use domain::{Counted, Found, Outcome, Told};
-use rules::{Refusal, Value};
+use rules::{Pair, Refusal, Value};
 
 // A payload stands above the byte of the refusal's number.
 const PAYLOADS: u64 = 72057594037927936;
@@ -31,13 +29,13 @@ pub fn refusal(r: Refusal) -> u64
 {
     let number = r.number();
     let place = r.place();
-    (number as u64) + pack(place as u64)
+    number as u64 + pack(place as u64)
 }
 
 pub fn said(y: bool) -> u64
     ensures { result ≡ coded (rules.said y) }
 {
-    if y { 256 } else { 0 }
+    pack(u64::from(y))
 }
 
 pub fn count(n: usize) -> u64
@@ -52,70 +50,51 @@ pub fn chute(v: Value) -> u64
     pack(state::half_of(v.0))
 }
 
-pub fn told(t: Told) -> u64
+pub fn told(t: Result<bool, Refusal>) -> u64
     ensures { result ≡ coded (told_of t) }
 {
-    match t {
-        Told::Refused(r) => refusal(r),
-        Told::Is(y) => said(y),
-    }
+    t.map_or_else(refusal, said)
 }
 
-pub fn outcome(o: Outcome) -> u64
+pub fn outcome(o: Result<(), Refusal>) -> u64
     ensures { result ≡ coded (outcome_of o) }
 {
-    match o {
-        Outcome::Refused(r) => refusal(r),
-        Outcome::Done => 0,
-    }
+    o.map_or_else(refusal, |()| 0)
 }
 
-pub fn counted(c: Counted) -> u64
+pub fn counted(c: Result<usize, Refusal>) -> u64
     ensures { result ≡ coded (count_of c) }
 {
-    match c {
-        Counted::Refused(r) => refusal(r),
-        Counted::Count(n) => count(n),
-    }
+    c.map_or_else(refusal, count)
 }
 
-pub fn found(f: Found) -> u64
+pub fn found(f: Result<Value, Refusal>) -> u64
     ensures { result ≡ coded (chute_of f) }
 {
-    match f {
-        Found::Refused(r) => refusal(r),
-        Found::At(v) => chute(v),
-    }
+    f.map_or_else(refusal, chute)
 }
 
-pub fn pair(p: Pair) -> u64
+pub fn pair(p: Result<Pair, Refusal>) -> u64
     ensures { result ≡ coded (pair_of p) }
 {
-    match p {
-        Pair::Refused(r) => refusal(r),
-        Pair::Is(changed, consistent) => both(changed, consistent),
-    }
+    p.map_or_else(refusal, both)
 }
 
-fn both(changed: bool, consistent: bool) -> u64
-    ensures { result ≡ coded (rules.outcome changed consistent) }
+fn both(p: Pair) -> u64
+    ensures { result ≡ coded (rules.outcome p.changed p.consistent) }
 {
-    if changed {
-        if consistent { 768 } else { 256 }
-    } else {
-        if consistent { 512 } else { 0 }
-    }
+    pack(u64::from(p.changed) + 2 * u64::from(p.consistent))
 }
 
-// 0 for words that can be read as a board, else the refusal: 14 where they are too few, 1 where a field is out of its range.
-pub fn judge(ws: &[u64]) -> u64
+// Whether words can be read as a board: they are refused where they are too few, and where a field is out of its range.
+pub fn judge(ws: &[u64]) -> Result<(), Refusal>
     ensures { (result ≡ judge_of ws.now) × Words ws.now }
 {
     if ws.len() < state::WORDS {
-        return 14;
+        return Err(Refusal::NoRoom);
     }
     if !state::is_fitting(ws) {
-        return 1;
+        return Err(Refusal::Broken);
     }
-    0
+    Ok(())
 }

@@ -7,16 +7,26 @@
 ghost use Rattle.std.specs.Prelude.{◌≡◌};
 ghost use Rattle.rules.specs.Refusals.{number_of, place_of};
 
+use std::error::Error;
+use std::fmt;
+
 // A destination. No chute can stand in its place: the compiler keeps the two apart.
-#[derive(Clone, Copy)]
+#[derive(Clone, Copy, Debug, PartialEq, Eq)]
 pub struct Variable(pub u32);
 
 // A chute.
-#[derive(Clone, Copy)]
+#[derive(Clone, Copy, Debug, PartialEq, Eq)]
 pub struct Value(pub i32);
 
+// What a propagation answers: whether it took a chute from a destination, and whether it left none without a chute.
+#[derive(Clone, Copy, Debug, PartialEq, Eq)]
+pub struct Pair {
+    pub changed: bool,
+    pub consistent: bool,
+}
+
 // Why a call was refused: a variant for each row of 01's table, in its order. A place counts from 0, in a list of ids or in a sheet's bytes.
-#[derive(Clone, Copy)]
+#[derive(Clone, Copy, Debug, PartialEq, Eq)]
 pub enum Refusal {
     Broken,
     Full,
@@ -64,21 +74,16 @@ impl Refusal {
         ensures { result ≡ place_of self }
     {
         match self {
-            Refusal::Unknown(at) => at,
-            Refusal::Repeated(at) => at,
-            Refusal::BadSheet(at) => at,
-            Refusal::Broken => 0,
-            Refusal::Full => 0,
-            Refusal::TrialOpen => 0,
-            Refusal::TooDeep => 0,
-            Refusal::NoMark => 0,
-            Refusal::TooLong => 0,
-            Refusal::TooWide => 0,
-            Refusal::Short => 0,
-            Refusal::Empty => 0,
-            Refusal::BadState => 0,
-            Refusal::OtherUniverse => 0,
-            Refusal::NoRoom => 0,
+            Refusal::Unknown(at) | Refusal::Repeated(at) | Refusal::BadSheet(at) => at,
+            _ => 0,
         }
     }
 }
+
+impl fmt::Display for Refusal {
+    fn fmt<W: fmt::Write>(&self, f: &mut fmt::Formatter<W>) -> fmt::Result {
+        write!(f, "refused: {} {}", self.number(), self.place())
+    }
+}
+
+impl Error for Refusal {}

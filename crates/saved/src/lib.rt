@@ -44,10 +44,8 @@ pub fn join(ws: &Saved, marks: usize, i: usize, x: Mask) -> Mask
     ensures { (k : ℕ) → ltb (val result) (2 ^ k) ≡ ltb (val x) (2 ^ k) && fit_under ws.now marks i k }
 {
     let mut all = x;
-    let mut m = 0;
-    while m < marks {
+    for m in 0..marks {
         all = mask::or(all, at(ws, m, i));
-        m += 1;
     }
     all
 }

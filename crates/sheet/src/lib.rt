@@ -7,107 +7,46 @@
 #![tactic(auto)]
 
 ghost use Rattle.std.specs.Prelude.{◌≡◌};
-ghost use Rattle.sheet_number.specs.Number.{fault};
 ghost use Rattle.sheet.specs.Sheet.{read_sheet, refusal_of};
 ghost use Rattle.sheet.specs.Whole.{read_of};
 
-use closing::{Closing, Kind};
-use rules::{Refusal, Value, Variable};
-use sheet_form::{Destination, Parsed, Span};
-use sheet_number::{Fault, Step};
+use rules::Refusal;
+use sheet_form::Parsed;
+use sheet_number::{Fault, Stop};
 
 // Every fault is told as 15, with its place.
-pub fn refusal(k: Fault, place: usize) -> Refusal
-    ensures { result ≡ refusal_of k place }
+pub fn refusal(stop: Stop) -> Refusal
+    ensures { result ≡ refusal_of stop.fault stop.at }
 {
-    match k {
-        Fault::IllWritten => Refusal::BadSheet(place),
-        Fault::OutOfRange => Refusal::BadSheet(place),
-        Fault::Separator => Refusal::BadSheet(place),
-        Fault::Ended => Refusal::BadSheet(place),
-        Fault::Trailing => Refusal::BadSheet(place),
-        Fault::TooLong => Refusal::BadSheet(place),
-    }
+    Refusal::BadSheet(stop.at)
 }
 
-// The rows of a sheet and its length, or what is wrong with the text and no rows.
-#[derive(Clone, Copy)]
-pub struct Read {
-    pub parsed: Parsed,
-    pub end: Step,
-}
-
-fn no_sheet(k: Fault, p: usize) -> Read
-    ensures { result ≡ read_of (fault k p) }
-{
-    Read {
-        parsed: Parsed {
-            destinations: [Destination {
-                id: Variable(0),
-                min: Value(0),
-                max: Value(0),
-            }; 64],
-            dn: 0,
-            closings: [Closing {
-                kind: Kind::Remove,
-                id: Variable(0),
-                value: Value(0),
-            }; 256],
-            cn: 0,
-            lists: [Span { start: 0, len: 0 }; 16],
-            ln: 0,
-            ids: [0; 1024],
-        },
-        end: Step::Bad(k, p),
-    }
-}
-
-pub fn read_sheet(s: &[u8]) -> Read
+// The rows of a sheet and its length, or what is wrong with the text and where, and then no rows.
+pub fn read_sheet(s: &[u8]) -> Result<(Parsed, usize), Stop>
     ensures { result ≡ read_of (read_sheet s.now) }
 {
     if 32768 < s.len() {
-        return no_sheet(Fault::TooLong, 32768);
+        return Err(Stop {
+            fault: Fault::TooLong,
+            at: 32768,
+        });
     }
-    let d = sheet_sections::read_destinations(s, 0);
-    let after_d = d.end;
-    match after_d {
-        Step::Bad(k, p) => no_sheet(k, p),
-        Step::At(e) => {
-            let c = sheet_sections::read_closings(s, e);
-            let after_c = c.end;
-            match after_c {
-                Step::Bad(k, p) => no_sheet(k, p),
-                Step::At(f) => {
-                    let l = sheet_sections::read_lists(s, f);
-                    let after_l = l.end;
-                    match after_l {
-                        Step::Bad(k, p) => no_sheet(k, p),
-                        Step::At(g) => {
-                            if g < s.len() {
-                                no_sheet(Fault::Trailing, g)
-                            } else {
-                                let destinations = d.rows;
-                                let closings = c.rows;
-                                let lists = l.rows;
-                                let ids = l.ids;
-                                let parsed = Parsed {
-                                    destinations,
-                                    dn: d.count,
-                                    closings,
-                                    cn: c.count,
-                                    lists,
-                                    ln: l.count,
-                                    ids,
-                                };
-                                Read {
-                                    parsed,
-                                    end: Step::At(g),
-                                }
-                            }
-                        }
-                    }
-                }
-            }
-        }
+    let (destinations, e) = sheet_sections::read_destinations(s, 0)?;
+    let (closings, f) = sheet_sections::read_closings(s, e)?;
+    let (l, g) = sheet_sections::read_lists(s, f)?;
+    if g < s.len() {
+        return Err(Stop {
+            fault: Fault::Trailing,
+            at: g,
+        });
     }
+    let lists = l.spans;
+    let ids = l.ids;
+    let parsed = Parsed {
+        destinations,
+        closings,
+        lists,
+        ids,
+    };
+    Ok((parsed, g))
 }

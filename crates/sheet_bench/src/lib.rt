@@ -3,14 +3,9 @@
 #![tactic(auto)]
 
 use closing::Kind;
-use sheet_number::Step;
-
-fn wide(x: u32) -> u64 {
-    x as u64
-}
 
 fn sign(x: i32) -> u64 {
-    if x < 0 { 1 } else { 0 }
+    u64::from(x < 0)
 }
 
 fn kind(k: Kind) -> u64 {
@@ -23,25 +18,19 @@ fn kind(k: Kind) -> u64 {
 }
 
 pub fn bench_read(text: &[u8], pick: usize) -> u64 {
-    let r = sheet::read_sheet(text);
-    let end = r.end;
-    match end {
-        Step::Bad(_, _) => 0,
-        Step::At(e) => {
-            let p = r.parsed;
-            let d = p.destinations[pick % 64];
-            let c = p.closings[pick % 256];
-            let l = p.lists[pick % 16];
-            let id = wide(p.ids[pick % 1024]);
-            let k = c.kind;
-            let rows = d.id.0 as u64
-                ^ sign(d.min.0)
-                ^ sign(d.max.0)
-                ^ kind(k)
-                ^ c.id.0 as u64
-                ^ sign(c.value.0);
-            let counts = p.dn as u64 ^ p.cn as u64 ^ p.ln as u64;
-            rows ^ counts ^ l.start as u64 ^ l.len as u64 ^ id ^ e as u64
-        }
-    }
+    let Ok((p, e)) = sheet::read_sheet(text) else {
+        return 0;
+    };
+    let d = p.destinations.rows[pick % 64];
+    let c = p.closings.rows[pick % 256];
+    let l = p.lists.rows[pick % 16];
+    let id = u64::from(p.ids[pick % 1024]);
+    let rows = u64::from(d.id.0)
+        ^ sign(d.min.0)
+        ^ sign(d.max.0)
+        ^ kind(c.kind)
+        ^ u64::from(c.id.0)
+        ^ sign(c.value.0);
+    let counts = p.destinations.count as u64 ^ p.closings.count as u64 ^ p.lists.count as u64;
+    rows ^ counts ^ l.start as u64 ^ l.len as u64 ^ id ^ e as u64
 }

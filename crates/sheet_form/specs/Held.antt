@@ -5,6 +5,7 @@ use Rattle.closing.specs.declared.Closing.{Closing}
 use Rattle.closing.specs.declared.Kind.TheVariants.{Remove}
 use Rattle.sheet_form.specs.declared.Destination.{Destination}
 use Rattle.sheet_form.specs.declared.Span.{Span}
+use Rattle.sheet_form.specs.declared.Rows.{Rows}
 use Rattle.sheet_form.specs.declared.Parsed.{Parsed}
 use Rattle.sheet_form.specs.Sheet.{Sheet}
 
@@ -31,14 +32,18 @@ unfoldable pub spans : {A : Type 0} → ℕ → List (List A) → List Span
 spans u [] = []
 spans u (l ∷ ls) = record { start = u; len = length l } ∷ spans (u + length l) ls
 
+-- as the code holds the rows l, n at most
+abbrev pub held : {A : Type 0} (n : ℕ) → A → List A → Rows A n
+held n blank l = record { rows = filled n blank l; count = length l }
+
+abbrev pub held_spans : List (List ℕ) → Rows Span 16
+held_spans ls = record { rows = filled 16 no_span (spans 0 ls); count = length ls }
+
 abbrev pub parsed_of : Sheet → Parsed
 parsed_of sh =
     record {
-      destinations = filled 64 no_destination sh.destinations;
-      dn = length sh.destinations;
-      closings = filled 256 no_closing sh.closings;
-      cn = length sh.closings;
-      lists = filled 16 no_span (spans 0 sh.lists);
-      ln = length sh.lists;
+      destinations = held 64 no_destination sh.destinations;
+      closings = held 256 no_closing sh.closings;
+      lists = held_spans sh.lists;
       ids = filled 1024 0 (joined sh.lists);
     }

@@ -20,23 +20,18 @@ pub struct Span {
     pub len: usize,
 }
 
-// The first rows of each array are the sheet's, as many as the count beside it says; the others are blank.
+// Rows, of which the first `count` are the sheet's; the others are blank.
 #[derive(Clone, Copy)]
-pub struct Parsed {
-    pub destinations: [Destination; 64],
-    pub dn: usize,
-    pub closings: [Closing; 256],
-    pub cn: usize,
-    pub lists: [Span; 16],
-    pub ln: usize,
-    pub ids: [u32; 1024],
+pub struct Rows<T, const N: usize> {
+    pub rows: [T; N],
+    pub count: usize,
 }
 
-// What a list was answered: the number and place of a refusal, or number 0 and the pair.
+// A whole sheet; the ids of all its lists stand in one run.
 #[derive(Clone, Copy)]
-pub struct Line {
-    pub number: u32,
-    pub place: usize,
-    pub changed: bool,
-    pub consistent: bool,
+pub struct Parsed {
+    pub destinations: Rows<Destination, 64>,
+    pub closings: Rows<Closing, 256>,
+    pub lists: Rows<Span, 16>,
+    pub ids: [u32; 1024],
 }

@@ -1,5 +1,5 @@
 -- What a reader gives, step by step. Assumes nothing.
-use Rattle.std.specs.Prelude.{ℕ, suc, ◌+◌, ◌-◌, ◌^◌, ◌≤◌, ◌<◌, ◌≡◌, refl, List, [], ◌∷◌, ◌++◌, Bool, true, false, cond, ◌&&◌, T, length, get_or, drop, ℤ, pos, negsuc, nat_abs}
+use Rattle.std.specs.Prelude.{ℕ, suc, ◌+◌, ◌-◌, ◌^◌, ◌≤◌, ◌<◌, ◌≡◌, refl, List, [], ◌∷◌, ◌++◌, Bool, true, false, cond, ◌&&◌, T, length, get_or, drop, ℤ, pos, negsuc, nat_abs, Result}
 use Rattle.std.specs.Int.Signed.{le_z, non_neg}
 use Rattle.std.specs.Int.{w64, w32}
 use Rattle.std.proofs.Common.{ap, ap₂, sym, ◌∙◌, subst, append_assoc, append-nil, arith, lt-ltb, le-ltb, le-leb, eq-eqb, ne_eqb, leb-true, SFits, Fits, to_z, of_z}
@@ -8,21 +8,46 @@ use Rattle.std.proofs.Math.Option.{Option, some, none}
 use Rattle.std.proofs.lemmas.Int.{to_z_pos}
 use mathlib.Core.Path.{subst⁻¹}
 use Rattle.sheet_number.specs.Number.{run, run_end, written, number_at, byte_at, fault_at, judged, Got, got, fault}
-use Rattle.sheet_number.specs.Told.{number}
+use Rattle.std.specs.Result.{IsErrAnd}
+use Rattle.std.specs.declared.result.Result.TheVariants.{Ok, Err}
+use Rattle.std.proofs.lemmas.Result.{err_from_is_err_and}
+use Rattle.sheet_number.specs.declared.Stop.{Stop}
+use Rattle.sheet_number.specs.Told.{told, answer, stop}
 use Rattle.sheet_number.specs.Reader.{Reader, after, natural, value, field, each}
-use Rattle.sheet_number.specs.declared.Number.{Number}
 use Rattle.sheet_number.specs.declared.Fault.{Fault}
 use Rattle.sheet_number.specs.declared.Fault.TheVariants.{Separator, Ended}
 use Rattle.sheet_number.proofs.Runs.{and_left, and_right}
-use Rattle.sheet_number.specs.declared.Number.TheVariants as Z
 
-pub told-value : (g : Got ℤ) (z : ℤ) (e : ℕ) {r : Number} → r ≡ number g → r ≡ Z.Is z e → g ≡ got z e
-told-value (got y d) z e p q = cc
-told-value (fault k d) z e p q = let x : ◌≡◌ {A = ℕ} 0 1 = cc in absurd (omega arith)
+-- ---- a fault that a `?` passes on
 
-pub told-fault : (g : Got ℤ) (k : Fault) (e : ℕ) {r : Number} → r ≡ number g → r ≡ Z.Bad k e → g ≡ fault k e
-told-fault (got y d) k e p q = let x : ◌≡◌ {A = ℕ} 0 1 = cc in absurd (omega arith)
-told-fault (fault j d) k e p q = cc
+pub passed : {A : Type 0} (r : Result A Stop) (e : Stop) → IsErrAnd r (λ d. d ≡ e) → r ≡ Err e
+passed r e h =
+    let p = err_from_is_err_and r h in
+    p.1 ∙ ap Err p.2
+
+pub passed_on : {A : Type 0} (r : Result (A × ℕ) Stop) (e : Stop) → IsErrAnd r (λ d. d ≡ e) → told r ≡ fault e.fault e.at
+passed_on r e h = ap told (passed r e h)
+
+-- ---- what an answer tells
+
+module _ {A B : Type 0} (f : A → B) where
+  pub answered : (g : Got A) (r : B) (e : ℕ) → Ok (r, e) ≡ answer f g → (a : A) × (g ≡ got a e) × (r ≡ f a)
+  answered (got a d) r e q =
+      let h : (r, e) ≡ (f a, d) = cc in
+      (a, ap (λ (x : ℕ). got a x) (sym (ap (λ (x : B × ℕ). x.1) h)), ap (λ (x : B × ℕ). x.0) h)
+  answered (fault k p) r e q = let z : ◌≡◌ {A = ℕ} 0 1 = cc in absurd (omega arith)
+
+  pub stopped : (g : Got A) (x : Stop) → Err x ≡ answer f g → g ≡ fault x.fault x.at
+  stopped (got a d) x q = let z : ◌≡◌ {A = ℕ} 0 1 = cc in absurd (omega arith)
+  stopped (fault k p) x q =
+      let h : x ≡ stop k p = cc in
+      ap (λ (y : Stop). fault y.fault y.at) (sym h)
+
+  pub answer-fault : (g : Got A) (k : Fault) (p : ℕ) → g ≡ fault k p → Err (stop k p) ≡ answer f g
+  answer-fault g k p e = ap (answer f) (sym e)
+
+  pub answer-got : (g : Got A) (a : A) (e : ℕ) → g ≡ got a e → Ok (f a, e) ≡ answer f g
+  answer-got g a e q = ap (answer f) (sym q)
 
 -- ---- a number lies in its range
 
@@ -135,13 +160,12 @@ value-field-fits b s at z f q =
 
 -- ---- a u32 as an i64, and back
 
-pub widened : (s : List ℕ) (at low high : ℕ) → Fits w32 low → Fits w32 high
-    → number (number_at s at (to_z w64 low) (to_z w64 high)) ≡ number (number_at s at (pos low) (pos high))
-widened s at low high p q =
-    ap₂ (λ (l h : ℤ). number (number_at s at l h)) (to_z_pos w64 low (omega (arith, p.fits))) (to_z_pos w64 high (omega (arith, q.fits)))
-
 pub small-bits : (z : ℤ) (n : ℕ) → z ≡ pos n → n < 2 ^ 32 → to_z w64 (of_z w64 z) ≡ pos n
 small-bits z n e h = ap (λ (x : ℤ). to_z w64 (of_z w64 x)) e ∙ to_z_pos w64 n (omega arith)
+
+pub widened : (s : List ℕ) (at low high : ℕ) {l h : ℤ} → l ≡ pos low → h ≡ pos high → Fits w32 low → Fits w32 high
+    → number_at s at (to_z w64 (of_z w64 l)) (to_z w64 (of_z w64 h)) ≡ number_at s at (pos low) (pos high)
+widened s at low high {l} {h} d e p q = ap₂ (number_at s at) (small-bits l low d (omega (arith, p.fits))) (small-bits h high e (omega (arith, q.fits)))
 
 pub small-cast : (z : ℤ) (n : ℕ) → to_z w64 (of_z w64 z) ≡ pos n → n < 2 ^ 32 → T (non_neg (to_z w64 (of_z w64 z))) × Fits w32 (nat_abs (to_z w64 (of_z w64 z)))
 small-cast z n e h = subst⁻¹ (λ (y : ℤ). T (non_neg y) × Fits w32 (nat_abs y)) e (tt, record { fits = h })

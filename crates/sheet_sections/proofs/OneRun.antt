@@ -7,8 +7,10 @@ use Rattle.sheet_form.specs.Held.{filled, joined, spans}
 use Rattle.sheet_number.specs.declared.Fault.{Fault}
 use Rattle.sheet_number.specs.Number.{Got, got, fault, byte_at}
 use Rattle.sheet_number.specs.Reader.{Reader, after, natural, each}
+use Rattle.sheet_number.specs.Told.{stop}
 use Rattle.sheet_number.proofs.Readers.{natural-bound}
-use Rattle.sheet_number.specs.declared.Step.TheVariants.{At, Bad}
+use Rattle.std.specs.declared.result.Result.TheVariants.{Ok, Err}
+use Rattle.sheet_number.specs.declared.Stop.{Stop}
 use Rattle.sheet_sections.specs.Sections.{gap, count, listed, list}
 use Rattle.sheet_sections.specs.Rows.{ahead, before, Stored, stored_ids, step_of}
 
@@ -100,23 +102,25 @@ unfolding each before
 before-all f zero s at l e q = let w : [] ≡ l = cc in w
 before-all f (suc n) s at l e q = first_by f n s (f n s at) l e (before-all f n s) q
 
-step-at : {A : Type 0} (g : Got A) (e : ℕ) → step_of g ≡ At e → (a : A) × (g ≡ got a e)
-step-at (got a d) e q = let j : d ≡ e = cc in (a, ap (λ (x : ℕ). got a x) j)
+step-at : {A : Type 0} (g : Got A) (e : ℕ) → Ok e ≡ step_of g → (a : A) × (g ≡ got a e)
+step-at (got a d) e q = let j : e ≡ d = cc in (a, ap (λ (x : ℕ). got a x) (sym j))
 step-at (fault k p) e q = let z : ◌≡◌ {A = ℕ} 0 1 = cc in absurd (omega arith)
 
-step-bad : {A : Type 0} (g : Got A) (k : Fault) (p : ℕ) → step_of g ≡ Bad k p → g ≡ fault k p
-step-bad (got a d) k p q = let z : ◌≡◌ {A = ℕ} 0 1 = cc in absurd (omega arith)
-step-bad (fault j d) k p q = cc
+step-bad : {A : Type 0} (g : Got A) (x : Stop) → Err x ≡ step_of g → g ≡ fault x.fault x.at
+step-bad (got a d) x q = let z : ◌≡◌ {A = ℕ} 0 1 = cc in absurd (omega arith)
+step-bad (fault j d) x q =
+    let h : x ≡ stop j d = cc in
+    ap (λ (y : Stop). fault y.fault y.at) (sym h)
 
 -- what storing the ids of a line tells
-module _ (n : ℕ) (s : List ℕ) (at : ℕ) (run : List ℕ) (used : ℕ) (r : Stored) (told : r ≡ stored_ids n s at run used) where
-  pub stored_at : (e : ℕ) → r.end ≡ At e → (l : List ℕ) × (each listed n s at ≡ got l e) × (r.cells ≡ sets run used l)
-  stored_at e h =
-      let k = step-at (each listed n s at) e (sym (ap (λ (x : Stored). x.end) told) ∙ h) in
+module _ (n : ℕ) (s : List ℕ) (at : ℕ) (run : List ℕ) (used : ℕ) (cells : List ℕ) where
+  pub stored_at : (e : ℕ) → record { end = Ok e; cells = cells } ≡ stored_ids n s at run used → (l : List ℕ) × (each listed n s at ≡ got l e) × (cells ≡ sets run used l)
+  stored_at e told =
+      let k = step-at (each listed n s at) e (ap (λ (x : Stored). x.end) told) in
       (k.0, k.1, ap (λ (x : Stored). x.cells) told ∙ ap (sets run used) (before-all listed n s at k.0 e k.1))
 
-  pub stored-bad : (k : Fault) (p : ℕ) → r.end ≡ Bad k p → each listed n s at ≡ fault k p
-  stored-bad k p h = step-bad (each listed n s at) k p (sym (ap (λ (x : Stored). x.end) told) ∙ h)
+  pub stored-bad : (x : Stop) → record { end = Err x; cells = cells } ≡ stored_ids n s at run used → each listed n s at ≡ fault x.fault x.at
+  stored-bad x told = step-bad (each listed n s at) x (ap (λ (x : Stored). x.end) told)
 
 pub stored_is : (n : ℕ) (s : List ℕ) (at : ℕ) (run : List ℕ) (used : ℕ) (g : Got (List ℕ)) (cells xs : List ℕ) → each listed n s at ≡ g → cells ≡ sets run used xs
     → before listed n s at ≡ xs → record { end = step_of g; cells = cells } ≡ stored_ids n s at run used

@@ -1,41 +1,28 @@
--- What is read, as the code holds it: rows in arrays of fixed length, blank after the last; all blank on a fault. Assumes nothing.
-use Rattle.std.specs.Prelude.{ℕ, zero, suc, List, [], ◌∷◌, length}
+-- What is read, as the code holds it: rows in arrays of fixed length, blank after the last; none on a fault. Assumes nothing.
+use Rattle.std.specs.Prelude.{ℕ, zero, suc, List, [], ◌∷◌, Result}
 use Rattle.std.proofs.lemmas.List.Edits.{sets}
 use Rattle.closing.specs.declared.Closing.{Closing}
 use Rattle.sheet_form.specs.declared.Destination.{Destination}
-use Rattle.sheet_form.specs.Held.{no_destination, no_closing, no_span, filled, joined, spans}
-use Rattle.sheet_number.specs.declared.Step.{Step}
-use Rattle.sheet_number.specs.declared.Step.TheVariants.{At, Bad}
+use Rattle.sheet_form.specs.declared.Rows.{Rows}
+use Rattle.sheet_form.specs.Held.{no_destination, no_closing, held, held_spans, filled, joined}
+use Rattle.std.specs.declared.result.Result.TheVariants.{Ok, Err}
+use Rattle.sheet_number.specs.declared.Stop.{Stop}
 use Rattle.sheet_number.specs.Number.{Got, got, fault}
+use Rattle.sheet_number.specs.Told.{answer, stop}
 use Rattle.sheet_number.specs.Reader.{Reader, each}
 use Rattle.sheet_sections.specs.Sections.{listed}
-use Rattle.sheet_sections.specs.declared.DestinationLine.{DestinationLine}
-use Rattle.sheet_sections.specs.declared.ClosingLine.{ClosingLine}
-use Rattle.sheet_sections.specs.declared.Destinations.{Destinations}
-use Rattle.sheet_sections.specs.declared.Closings.{Closings}
 use Rattle.sheet_sections.specs.declared.Lists.{Lists}
-use Rattle.sheet_sections.specs.declared.DestinationLine.TheVariants as D
-use Rattle.sheet_sections.specs.declared.ClosingLine.TheVariants as C
 
-abbrev pub told_destination : DestinationLine → Got Destination
-told_destination (D.Is d e) = got d e
-told_destination (D.Bad k p) = fault k p
+-- the place after what was read
+abbrev pub step_of : {A : Type 0} → Got A → Result ℕ Stop
+step_of (got a e) = Ok e
+step_of (fault k p) = Err (stop k p)
 
-abbrev pub told_closing : ClosingLine → Got Closing
-told_closing (C.Is d e) = got d e
-told_closing (C.Bad k p) = fault k p
+abbrev pub destinations_of : Got (List Destination) → Result (Rows Destination 64 × ℕ) Stop
+destinations_of = answer (held 64 no_destination)
 
-abbrev pub step_of : {A : Type 0} → Got A → Step
-step_of (got a e) = At e
-step_of (fault k p) = Bad k p
-
-abbrev pub destinations_of : Got (List Destination) → Destinations
-destinations_of (got l e) = record { rows = filled 64 no_destination l; count = length l; end = At e }
-destinations_of (fault k p) = record { rows = filled 64 no_destination []; count = 0; end = Bad k p }
-
-abbrev pub closings_of : Got (List Closing) → Closings
-closings_of (got l e) = record { rows = filled 256 no_closing l; count = length l; end = At e }
-closings_of (fault k p) = record { rows = filled 256 no_closing []; count = 0; end = Bad k p }
+abbrev pub closings_of : Got (List Closing) → Result (Rows Closing 256 × ℕ) Stop
+closings_of = answer (held 256 no_closing)
 
 -- ---- lists
 
@@ -49,13 +36,12 @@ before f zero s at = []
 before f (suc n) s at = ahead (f n s at) (λ a e. a ∷ before f n s e)
 
 pub record Stored : Type 0 where
-  pub end : Step
+  pub end : Result ℕ Stop
   pub cells : List ℕ
 
 -- the ids of a line put into the run of ids from the place used on
 abbrev pub stored_ids : ℕ → List ℕ → ℕ → List ℕ → ℕ → Stored
 stored_ids n s at run used = record { end = step_of (each listed n s at); cells = sets run used (before listed n s at) }
 
-abbrev pub lists_of : Got (List (List ℕ)) → Lists
-lists_of (got ls e) = record { rows = filled 16 no_span (spans 0 ls); count = length ls; ids = filled 1024 0 (joined ls); end = At e }
-lists_of (fault k p) = record { rows = filled 16 no_span []; count = 0; ids = filled 1024 0 []; end = Bad k p }
+abbrev pub lists_of : Got (List (List ℕ)) → Result (Lists × ℕ) Stop
+lists_of = answer (λ ls. record { spans = held_spans ls; ids = filled 1024 0 (joined ls) })

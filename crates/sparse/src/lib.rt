@@ -8,11 +8,12 @@
 // orderings are well formed, and refuses them by number otherwise, as they came. `sparse_inner` holds the same work without that test.
 #![tactic(auto)]
 
-use rules::{Refusal, Value};
-use sparse_inner::{Sparse, SparseState};
+use rules::Refusal;
+use sparse_inner::Sparse;
 
 pub mod ask;
 pub mod change;
+pub mod inner;
 
 pub use ask::{
     complement_size, contains, current_size, first, is_empty, is_fixed, last, max,
@@ -21,51 +22,15 @@ pub use ask::{
 };
 pub use change::{remove, remove_above, remove_all, remove_all_but, remove_below, restore_state};
 
-// Yes or no.
+// A set handed back by a call that may change it, and what the call answers.
 #[derive(Clone, Copy)]
-pub enum Told {
-    Is(bool),
-    Refused(Refusal),
-}
-
-// How many.
-#[derive(Clone, Copy)]
-pub enum Counted {
-    Count(usize),
-    Refused(Refusal),
-}
-
-// Which value.
-#[derive(Clone, Copy)]
-pub enum Found {
-    At(Value),
-    Refused(Refusal),
-}
-
-// That it is done.
-#[derive(Clone, Copy)]
-pub enum Outcome {
-    Done,
-    Refused(Refusal),
-}
-
-// What to restore later.
-#[derive(Clone, Copy)]
-pub enum Kept {
-    State(SparseState),
-    Refused(Refusal),
-}
-
-// A set handed back, and whether it changed.
-#[derive(Clone, Copy)]
-pub struct Changed {
+pub struct Handed<A> {
     pub set: Sparse,
-    pub answer: Told,
+    pub answer: Result<A, Refusal>,
 }
 
-// A set handed back by a call that has nothing else to tell.
-#[derive(Clone, Copy)]
-pub struct Narrowed {
-    pub set: Sparse,
-    pub answer: Outcome,
-}
+// Of a call that tells whether it changed the set.
+pub type Changed = Handed<bool>;
+
+// Of a call that has nothing else to tell.
+pub type Narrowed = Handed<()>;

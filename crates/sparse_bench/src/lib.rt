@@ -7,52 +7,35 @@
 
 ghost use Rattle.sparse_inner.specs.Set.{Well};
 
-use rules::Value;
-use sparse::{Found, Outcome, Told};
-use sparse_inner::{Sparse, Verdict};
-use sparse_make::Made;
+use rules::{Refusal, Value};
+use sparse::Handed;
+use sparse_inner::Sparse;
 
-fn plus(a: u64, b: u64) -> u64 {
-    std::num::wrapping_add_u64(a, b)
-}
+// What a refusal adds to a sum.
+const REFUSED: u64 = 1000;
 
 // A set in one number.
 fn folded(s: Sparse) -> u64 {
     (s.size as u64) ^ ((s.min as u64) << 16) ^ ((s.max as u64) << 32)
 }
 
-fn told(t: Told) -> u64 {
-    match t {
-        Told::Is(yes) => {
-            if yes {
-                return 1;
-            }
-            0
-        }
-        Told::Refused(_) => 1000,
-    }
+fn told(answer: Result<bool, Refusal>) -> u64 {
+    answer.map_or(REFUSED, u64::from)
 }
 
-fn outcome(o: Outcome) -> u64 {
-    match o {
-        Outcome::Done => 0,
-        Outcome::Refused(_) => 1000,
-    }
+fn outcome(answer: Result<(), Refusal>) -> u64 {
+    answer.map_or(REFUSED, |_| 0)
 }
 
 // How many of the values are held.
 fn held(s: Sparse, ind: &[u32], val: &[u32], values: &[i32]) -> u64
     requires { Well s ind.now val.now }
 {
-    let n = s.n;
-    let size = s.size;
     let mut sum: u64 = 0;
-    let mut i = 0;
-    while i < values.len() {
-        if sparse_inner::holds(ind, n, size, sparse_inner::place(s, Value(values[i]))) {
-            sum = plus(sum, 1);
+    for v in values {
+        if sparse_inner::holds(ind, s.n, s.size, sparse_inner::place(s, Value(*v))) {
+            sum = sum.wrapping_add(1);
         }
-        i += 1;
     }
     sum
 }
@@ -75,8 +58,8 @@ pub fn bench_sparse_contains(
         max,
     };
     match sparse_inner::check(s, ind, val) {
-        Verdict::Refused(_) => 1000,
-        Verdict::Fine => held(s, ind, val, values),
+        Err(_) => REFUSED,
+        Ok(()) => held(s, ind, val, values),
     }
 }
 
@@ -85,10 +68,8 @@ fn removed(s: Sparse, ind: &mut [u32], val: &mut [u32], values: &[i32]) -> u64
     requires { Well s ind.old val.old }
 {
     let mut cur = s;
-    let mut i = 0;
-    while i < values.len() {
-        cur = sparse_inner::drop_at(cur, ind, val, sparse_inner::place(cur, Value(values[i])));
-        i += 1;
+    for v in values {
+        cur = sparse_inner::drop_at(cur, ind, val, sparse_inner::place(cur, Value(*v)));
     }
     folded(cur)
 }
@@ -111,37 +92,16 @@ pub fn bench_sparse_remove(
         max,
     };
     match sparse_inner::check(s, ind, val) {
-        Verdict::Refused(_) => 1000,
-        Verdict::Fine => removed(s, ind, val, values),
+        Err(_) => REFUSED,
+        Ok(()) => removed(s, ind, val, values),
     }
 }
 
-fn remove(s: Sparse, ind: &mut [u32], val: &mut [u32], v: Value) -> u64 {
-    let c = sparse::remove(s, ind, val, v);
-    let next = c.set;
-    let t = c.answer;
-    plus(folded(next), told(t))
-}
-
-fn below(s: Sparse, ind: &mut [u32], val: &mut [u32], v: Value) -> u64 {
-    let c = sparse::remove_below(s, ind, val, v);
-    let next = c.set;
-    let o = c.answer;
-    plus(folded(next), outcome(o))
-}
-
-fn above(s: Sparse, ind: &mut [u32], val: &mut [u32], v: Value) -> u64 {
-    let c = sparse::remove_above(s, ind, val, v);
-    let next = c.set;
-    let o = c.answer;
-    plus(folded(next), outcome(o))
-}
-
-fn min_of(s: Sparse, ind: &[u32], val: &[u32]) -> u64 {
-    match sparse::min(s, ind, val) {
-        Found::At(_) => 1,
-        Found::Refused(_) => 1000,
-    }
+// What a call handed back and answered, as a sum.
+fn handed<A, F: FnOnce(Result<A, Refusal>) -> u64>(h: Handed<A>, number: F) -> u64
+    requires { F.IsAlwaysCallable number }
+{
+    folded(h.set).wrapping_add(number(h.answer))
 }
 
 pub fn bench_sparse_call(
@@ -162,19 +122,17 @@ pub fn bench_sparse_call(
         min,
         max,
     };
+    let v = Value(v);
     match op {
-        17 => told(sparse::contains(s, ind, val, Value(v))),
-        22 => min_of(s, ind, val),
-        33 => remove(s, ind, val, Value(v)),
-        36 => below(s, ind, val, Value(v)),
-        37 => above(s, ind, val, Value(v)),
+        17 => told(sparse::contains(s, ind, val, v)),
+        22 => sparse::min(s, ind, val).map_or(REFUSED, |_| 1),
+        33 => handed(sparse::remove(s, ind, val, v), told),
+        36 => handed(sparse::remove_below(s, ind, val, v), outcome),
+        37 => handed(sparse::remove_above(s, ind, val, v), outcome),
         _ => 0,
     }
 }
 
 pub fn bench_sparse_from_values(values: &[i32], ind: &mut [u32], val: &mut [u32]) -> u64 {
-    match sparse_make::new_from_values(values, ind, val) {
-        Made::Set(s) => folded(s),
-        Made::Refused(_) => 1000,
-    }
+    sparse_make::new_from_values(values, ind, val).map_or(REFUSED, folded)
 }

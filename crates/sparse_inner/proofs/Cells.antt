@@ -24,12 +24,3 @@ over-more xs out z h =
     ap (λ (l : Chutes). set (xs ++ l) (length xs) z) (drop-cons out (length xs) z h)
     ∙ set-append_seam xs (get_or out (length xs) z) (drop (suc (length xs)) out) z
     ∙ sym (append_assoc xs (z ∷ []) (drop (length (xs ++ (z ∷ []))) out) ∙ ap (λ (n : ℕ). xs ++ (z ∷ drop n out)) (length-append xs (z ∷ []) ∙ add-one (length xs)))
-
--- the first cells hold them
-pub take-over : (xs out : Chutes) → take (length xs) (over xs out) ≡ xs
-take-over [] out = refl
-take-over (x ∷ xs) out = ap (λ (l : Chutes). x ∷ l) (go xs (drop (suc (length xs)) out))
-  where
-    go : (a b : Chutes) → take (length a) (a ++ b) ≡ a
-    go [] b = refl
-    go (y ∷ a) b = ap (λ (l : Chutes). y ∷ l) (go a b)

@@ -1,13 +1,14 @@
 -- The tests that a call makes say just what their propositions say: bounds, a state that fits, and a well-formed set. Assumes nothing.
-use Rattle.std.specs.Prelude.{◌≡◌, refl, Bool, true, false, cond, ◌&&◌, List, ℕ, suc, ◌+◌, ◌-◌, ◌≤◌, ◌<◌, ltb, leb, eqb, ℤ, pos, negsuc, ◌+ℤ◌, length, get_or}
+use Rattle.std.specs.Prelude.{◌≡◌, refl, Bool, true, false, cond, ◌&&◌, List, ℕ, suc, ◌+◌, ◌-◌, ◌≤◌, ◌<◌, ltb, leb, eqb, ℤ, pos, negsuc, ◌+ℤ◌, length, get_or, Result, MatchResult, IfOk}
+use Rattle.std.specs.declared.result.Result.TheVariants.{Ok, Err}
 use Rattle.std.specs.Int.Signed.{le_z, mag}
 use Rattle.std.specs.Int.{w32}
 use Rattle.std.proofs.Common.{arith, SFits, leb-true, le-leb, ltb-true, ltb-false, eqb-true, eq-eqb, ne_eqb}
 use Rattle.std.proofs.Math.Decide.{ℕ_discrete}
+use Rattle.rules.specs.declared.Refusal.{Refusal}
 use Rattle.order.specs.Order.{Inverse, all_b, inverse_b}
 use Rattle.order.proofs.Orders.{and_left, and_right, and_both, all-at, all_of, inverse-of, of-inverse}
 use Rattle.sparse_inner.specs.declared.SparseState.{SparseState}
-use Rattle.sparse_inner.specs.declared.Verdict.TheVariants.{Fine, Refused}
 use Rattle.sparse_inner.specs.Set.{Full, Held, held_b, Bounds, WellF, between, bounds_b, fits_b, state_of, sound_b, narrow_b, room_b, verdict, verdict_of, both_of}
 use Rattle.sparse_inner.proofs.Sets.{held_of, of-held}
 
@@ -118,26 +119,35 @@ module _ (f : Full) where
   sound-yes W = and_both (far && inv) fit (and_both far inv W.universe (of-inverse f.ind f.val f.set.n W.inverse)) (of-fits f.ind f.val f.set.n (state_of f.set) W.inverse (record { within = W.within; bounds = W.bounds }))
 
 -- ---- verdicts
-pub never : {A : Type 0} {why : _} → Refused why ≡ Fine → A
-never e = absurd (let z : ◌≡◌ {A = ℕ} 0 1 = cc in omega arith)
-
 -- what three tests say together
-fine-all : (a b c : Bool) → verdict a b c ≡ Fine → (a ≡ true) × (b ≡ true) × (c ≡ true)
+fine-all : (a b c : Bool) → verdict a b c ≡ Ok tt → (a ≡ true) × (b ≡ true) × (c ≡ true)
 fine-all true true true e = (refl, refl, refl)
-fine-all true true false e = never e
-fine-all true false c e = never e
-fine-all false b c e = never e
+fine-all true true false e = absurd (cc)
+fine-all true false c e = absurd (cc)
+fine-all false b c e = absurd (cc)
+
+-- ---- a test that must hold, and why a call is refused where it doesn't
+abbrev pub Granted : Bool → Refusal → Result Unit Refusal → Type 0
+Granted so why r = MatchResult r (λ _. so ≡ true) (λ e. (so ≡ false) × (e ≡ why))
+
+pub granted-is : (so : Bool) (why : Refusal) (r : Result Unit Refusal) → Granted so why r → r ≡ cond so (Ok tt) (Err why)
+granted-is so why (Ok tt) m = rw m
+granted-is so why (Err e) m = rw (m.0, m.1)
+
+pub granted-well : {P : Type 0} (so : Bool) (why : Refusal) (r : Result Unit Refusal) → (so ≡ true → P) → Granted so why r → IfOk r (λ _. P)
+granted-well so why (Ok tt) then m = then m
+granted-well so why (Err e) then m = tt
 
 -- a set that is accepted is well formed, and the other way round
-pub well-of : (f : Full) → verdict_of f ≡ Fine → WellF f
+pub well-of : (f : Full) → verdict_of f ≡ Ok tt → WellF f
 unfolding verdict_of
 well-of f e = let t = fine-all (narrow_b f) (room_b f) (sound_b f) e in sound-well f t.0 t.1 t.2
 
-pub of-well : (f : Full) → WellF f → verdict_of f ≡ Fine
+pub of-well : (f : Full) → WellF f → verdict_of f ≡ Ok tt
 unfolding verdict_of
 of-well f W = rw (narrow-yes f W, room-yes f W, sound-yes f W)
 
-pub both_of_lem : (f g : Full) → both_of f g ≡ Fine → WellF f × WellF g
+pub both_of_lem : (f g : Full) → both_of f g ≡ Ok tt → WellF f × WellF g
 unfolding both_of
 both_of_lem f g e =
     let t = fine-all (narrow_b f && narrow_b g) (room_b f && room_b g) (sound_b f && sound_b g) e in (
@@ -145,7 +155,7 @@ both_of_lem f g e =
       sound-well g (and_right (narrow_b f) (narrow_b g) t.0) (and_right (room_b f) (room_b g) t.1) (and_right (sound_b f) (sound_b g) t.2),
     )
 
-pub of-both : (f g : Full) → WellF f → WellF g → both_of f g ≡ Fine
+pub of-both : (f g : Full) → WellF f → WellF g → both_of f g ≡ Ok tt
 unfolding both_of
 of-both f g U W = rw (narrow-yes f U, room-yes f U, sound-yes f U, narrow-yes g W, room-yes g W, sound-yes g W)
 

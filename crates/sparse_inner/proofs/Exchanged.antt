@@ -1,7 +1,7 @@
 -- An offset of the universe exchanged with the one that stands in a cell. Dropping an offset does so with the last cell that is held, adding one
 -- with the first that isn't, and keeping one alone with cell 0. Assumes nothing.
-use Rattle.std.specs.Prelude.{◌≡◌, ◌≢◌, List, ℕ, ◌<◌, length, get_or}
-use Rattle.std.proofs.Common.{ap, ◌∙◌, subst, arith}
+use Rattle.std.specs.Prelude.{◌≡◌, ◌≢◌, List, ℕ, ◌<◌, get_or}
+use Rattle.std.proofs.Common.{ap, ◌∙◌, subst}
 use Rattle.order.specs.Order.{swapped, Inverse}
 use Rattle.order.proofs.Orders.{ind-a, ind-b, ind-other, exchange-inverse}
 use Rattle.sparse_inner.specs.declared.Sparse.{Sparse}
@@ -34,13 +34,6 @@ module _ (s : Sparse) (ind val : List ℕ) (W : Well s ind val) (o cell : ℕ) (
         (exchange-inverse ind val s.n W.inverse W.room-ind W.room-val o (get_or val cell 0) ho lt);
   }
 
-  -- what `order::exchange` requires of the two
-  pub may-exchange : ((o < length ind) × (get_or val cell 0 < length ind)) × (((get_or ind o 0 < length val) × (get_or ind (get_or val cell 0) 0 < length val)) × ((get_or val (get_or ind o 0) 0 ≡ o) × (get_or val (get_or ind (get_or val cell 0) 0) 0 ≡ get_or val cell 0)))
-  may-exchange = (
-    (omega (arith, W.room-ind), omega (arith, lt, W.room-ind)),
-    ((omega (arith, W.inverse.ind-lt o ho, W.room-val), omega (arith, at, W.room-val)), (W.inverse.val-ind o ho, W.inverse.val-ind (get_or val cell 0) lt)),
-  )
-
-  -- and what it leaves of the second ordering
+  -- what `order::exchange` leaves of the second ordering
   pub val-now : (val' : List ℕ) → val' ≡ swapped (get_or ind o 0) (get_or ind (get_or val cell 0) 0) val → val' ≡ swapped (get_or ind o 0) cell val
   val-now val' e = e ∙ ap (λ (j : ℕ). swapped (get_or ind o 0) j val) at

@@ -1,6 +1,6 @@
 -- The laws of a sparse set: its test of an offset, the bounds that a scan finds, and what dropping an offset leaves. Assumes nothing.
-use Rattle.std.specs.Prelude.{◌≡◌, refl, ◌≢◌, ◌⊎◌, Bool, true, false, cond, List, ℕ, zero, suc, ◌+◌, ◌-◌, ◌≤◌, ◌<◌, ltb, eqb, get_or}
-use Rattle.std.proofs.Common.{sym, ◌∙◌, subst, ⊎_elim, inl, inr, eq-or-lt_of_le, arith, ltb-true, lt-ltb, eq-eqb, ne_eqb}
+use Rattle.std.specs.Prelude.{◌≡◌, refl, ◌≢◌, Bool, true, false, cond, List, ℕ, zero, suc, ◌+◌, ◌-◌, ◌≤◌, ◌<◌, ltb, eqb, get_or}
+use Rattle.std.proofs.Common.{sym, ◌∙◌, ⊎_elim, eq-or-lt_of_le, arith, ltb-true, lt-ltb, eq-eqb, ne_eqb}
 use Rattle.std.proofs.Math.Decide.{ℕ_discrete}
 use Rattle.order.specs.Order.{swapped, Inverse}
 use Rattle.order.proofs.Orders.{and_left, and_right, ind-inj}
@@ -23,71 +23,9 @@ module _ (ind : List ℕ) (n size o : ℕ) where
   unfolding held_b
   of-held h = simp (lt-ltb _ _ h.in-universe, lt-ltb _ _ h.in-set)
 
--- ---- a scan that counts down or up by one
-pub above_more : (P : ℕ → Type 0) (v hi : ℕ) → 0 < v → ((k : ℕ) → v < k → k < hi → P k) → P v → (k : ℕ) → v - 1 < k → k < hi → P k
-above_more P v hi h all here k a b = ⊎_elim (λ (e : v ≡ k). subst P e here) (λ (l : v < k). all k l b) (eq-or-lt_of_le (omega arith))
-
-pub from_more : (P : ℕ → Type 0) (lo v : ℕ) → ((k : ℕ) → lo ≤ k → k < v → P k) → P v → (k : ℕ) → lo ≤ k → k < v + 1 → P k
-from_more P lo v all here k a b = ⊎_elim (λ (e : k ≡ v). subst P (sym e) here) (λ (l : k < v). all k a l) (eq-or-lt_of_le (omega arith))
-
-le-or-lt : (x y : ℕ) → (x ≤ y) ⊎ (y < x)
-le-or-lt zero y = inl (omega arith)
-le-or-lt (suc x) zero = inr (omega arith)
-le-or-lt (suc x) (suc y) = ⊎_elim (λ (p : x ≤ y). inl (omega arith)) (λ (q : y < x). inr (omega arith)) (le-or-lt x y)
-
--- ---- the bounds after o was dropped
-module _ (ind : List ℕ) (n size min max o : ℕ) (pos : 0 < size) (S : Spans ind n size min max o) where
-  other-ne : S.other ≢ o
-  other-ne e = let h : get_or ind o 0 < size = rw e at S.other-in.in-set in omega (arith, S.o-out)
-
-  pub max-stays : max ≢ o → Greatest ind n size max max
-  max-stays f = record { none = λ _. refl; held = λ _. S.max-in f; most = λ _. S.high }
-
-  pub min-stays : min ≢ o → Least ind n size min min
-  min-stays f = record { none = λ _. refl; held = λ _. S.min-in f; least = λ _. S.low }
-
-  -- where max was o, the scan starts above min and below o
-  pub min-below : max ≡ o → min < o
-  min-below e = lt_of (omega (arith, S.low S.other S.other-in)) (λ q. other-ne (omega (arith, S.low S.other S.other-in, S.high S.other S.other-in)))
-    where
-      lt_of : min ≤ S.other → (min ≡ o → ⊥) → min < o
-      lt_of a f = ⊎_elim (λ (q : min ≡ o). absurd (f q)) (λ (l : min < o). l) (eq-or-lt_of_le (omega (arith, S.high S.other S.other-in)))
-
-  pub above-o : min ≡ o → o + 1 ≤ max
-  above-o e = ⊎_elim (λ (q : o ≡ S.other). absurd (other-ne (sym q))) (λ (l : o < S.other). omega (arith, S.high S.other S.other-in)) (eq-or-lt_of_le (omega (arith, S.low S.other S.other-in)))
-
-  out : (k : ℕ) → Held ind n size k → k ≢ o
-  out k h e = let q : get_or ind o 0 < size = rw e at h.in-set in omega (arith, S.o-out)
-
-  pub max-scan : max ≡ o → (r : ℕ) → min ≤ r → r < o → (min < r → get_or ind r 0 < size) → ((k : ℕ) → r < k → k < o → size ≤ get_or ind k 0) → Greatest ind n size max r
-  max-scan e r a b f g = record {
-    none = λ z. absurd (omega arith);
-    held = λ _. ⊎_elim (λ (q : min ≡ r). subst (λ (x : ℕ). Held ind n size x) q (S.min-in (λ m. omega arith)))
-        (λ (l : min < r). record { in-universe = omega (arith, S.o_lt); in-set = f l }) (eq-or-lt_of_le a);
-    most = λ _ k h. ⊎_elim (λ (q : k ≡ o). absurd (out k h q))
-        (λ (l : k < o). small k h l (le-or-lt k r)) (eq-or-lt_of_le (omega (arith, S.high k h)));
-  }
-    where
-      small : (k : ℕ) → Held ind n size k → k < o → (k ≤ r) ⊎ (r < k) → k ≤ r
-      small k h l (inl p) = p
-      small k h l (inr q) = absurd (omega (arith, g k q l, h.in-set))
-
-  pub min-scan : min ≡ o → (r : ℕ) → o + 1 ≤ r → r ≤ max → (r < max → get_or ind r 0 < size) → ((k : ℕ) → o + 1 ≤ k → k < r → size ≤ get_or ind k 0) → Least ind n size min r
-  min-scan e r a b f g = record {
-    none = λ z. absurd (omega arith);
-    held = λ _. ⊎_elim (λ (q : r ≡ max). subst (λ (x : ℕ). Held ind n size x) (sym q) (S.max-in (λ m. omega arith)))
-        (λ (l : r < max). record { in-universe = omega (arith, S.max-lt); in-set = f l }) (eq-or-lt_of_le b);
-    least = λ _ k h. ⊎_elim (λ (q : o ≡ k). absurd (out k h (sym q)))
-        (λ (l : o < k). small k h l (le-or-lt r k)) (eq-or-lt_of_le (omega (arith, S.low k h)));
-  }
-    where
-      small : (k : ℕ) → Held ind n size k → o < k → (r ≤ k) ⊎ (k < r) → r ≤ k
-      small k h l (inl p) = p
-      small k h l (inr q) = absurd (omega (arith, g k (omega arith) q, h.in-set))
-
 -- ---- the greatest and the least number that a test takes
 pub true-false : (b : Bool) → b ≡ true → b ≡ false → ⊥
-true-false b p q = let z : ◌≡◌ {A = Bool} true false = cc in let y : ◌≡◌ {A = ℕ} 0 1 = cc in omega arith
+true-false b p q = cc
 
 pub high_is : (p : ℕ → Bool) (n r : ℕ) → r < n → p r ≡ true → ((k : ℕ) → k < n → p k ≡ true → k ≤ r) → highest p n ≡ r
 unfolding highest

@@ -1,5 +1,7 @@
 -- A sparse set over two lent orderings: which offsets it holds, when it is well formed, and why it is refused otherwise. Assumes nothing.
-use Rattle.std.specs.Prelude.{◌≡◌, Bool, true, cond, ◌&&◌, List, map, ◌++◌, ℕ, ◌≤◌, ◌<◌, ltb, leb, eqb, ℤ, pos, ◌+ℤ◌, ◌-ℤ◌, length, get_or, take, drop}
+use Rattle.std.specs.Prelude.{◌≡◌, Bool, true, cond, ◌&&◌, List, map, ◌++◌, ℕ, ◌≤◌, ◌<◌, ltb, leb, eqb, ℤ, pos, ◌+ℤ◌, ◌-ℤ◌, length, get_or, take, drop, Result}
+use Rattle.std.specs.declared.result.Result.TheVariants.{Ok, Err}
+use Rattle.rules.specs.declared.Refusal.{Refusal}
 use Rattle.std.specs.Int.Signed.{le_z}
 use Rattle.offset.specs.Places.{place_of}
 use Rattle.order.specs.Order.{Inverse, all_b, inverse_b}
@@ -7,8 +9,6 @@ use Rattle.rules.specs.Sets.{Chutes}
 use Rattle.rules.specs.declared.Refusal.TheVariants.{Broken, TooWide, Short}
 use Rattle.sparse_inner.specs.declared.Sparse.{Sparse}
 use Rattle.sparse_inner.specs.declared.SparseState.{SparseState}
-use Rattle.sparse_inner.specs.declared.Verdict.{Verdict}
-use Rattle.sparse_inner.specs.declared.Verdict.TheVariants.{Fine, Refused}
 
 -- the state and the two orderings: all that a set is
 pub record Full : Type 0 where
@@ -79,14 +79,14 @@ room_b f = leb f.set.n (length f.ind) && leb f.set.n (length f.val)
 
 -- ---- the verdict on what a call is lent: refusal 9, then 10, then 1
 
-abbrev pub verdict : Bool → Bool → Bool → Verdict
-verdict narrow room sound = cond narrow (cond room (cond sound Fine (Refused Broken)) (Refused Short)) (Refused TooWide)
+abbrev pub verdict : Bool → Bool → Bool → Result Unit Refusal
+verdict narrow room sound = cond narrow (cond room (cond sound (Ok tt) (Err Broken)) (Err Short)) (Err TooWide)
 
-unfoldable pub verdict_of : Full → Verdict
+unfoldable pub verdict_of : Full → Result Unit Refusal
 verdict_of f = verdict (narrow_b f) (room_b f) (sound_b f)
 
 -- of two sets: refused if either is concerned
-unfoldable pub both_of : Full → Full → Verdict
+unfoldable pub both_of : Full → Full → Result Unit Refusal
 both_of f g = verdict (narrow_b f && narrow_b g) (room_b f && room_b g) (sound_b f && sound_b g)
 
 -- ---- values

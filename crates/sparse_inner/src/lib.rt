@@ -1,10 +1,10 @@
 // The sparse set behind its calls: its state, by value, over two orderings that the caller lends, and the work of the calls on a set that is
 // known to be well formed. `check` is the test that makes it known; the calls that make it for their callers are in `sparse` and beside it.
 //
-// check, check_both; place, below, upto, value; holds, fits, state; drop_at, add_at, only_at, from_cut, under_cut
-#![tactic(auto)]
+// granted, check, check_both; place, below, upto, value; holds, has, fits, state, resized, emptied; drop_at, add_at, only_at, from_cut, under_cut
+#![tactic(auto, unfolding(crate::specs::Set::held_b, crate::specs::Set::bounds_b, crate::specs::Set::fits_b, crate::specs::Set::sound_b, crate::specs::Set::verdict_of, crate::specs::Set::both_of))]
 
-ghost use Rattle.std.specs.Prelude.{◌≡◌, ℕ, ◌+◌, ◌-◌, ◌<◌, ◌≤◌, pos, ◌+ℤ◌, ◌-ℤ◌, length, get_or};
+ghost use Rattle.std.specs.Prelude.{◌≡◌, ℕ, ◌+◌, ◌-◌, ◌<◌, ◌≤◌, pos, ◌+ℤ◌, ◌-ℤ◌, length, get_or, true, false, IfOk, MatchResult};
 ghost use Rattle.std.specs.Int.Signed.{le_z};
 ghost use Rattle.std.specs.Int.{w32};
 ghost use Rattle.std.proofs.Common.{SFits};
@@ -32,13 +32,6 @@ pub struct SparseState {
     pub size: u32,
     pub min: u32,
     pub max: u32,
-}
-
-// Whether a set and its orderings are well formed.
-#[derive(Clone, Copy)]
-pub enum Verdict {
-    Fine,
-    Refused(Refusal),
 }
 
 // How many values a universe may have.
@@ -80,10 +73,15 @@ pub fn holds(ind: &[u32], n: u32, size: u32, o: u32) -> bool
     requires { n ≤ length ind.now }
     ensures { result ≡ held_b ind.now n size o }
 {
-    if o >= n {
-        return false;
-    }
-    ind[o as usize] < size
+    o < n && ind[o as usize] < size
+}
+
+// Is v held?
+pub fn has(s: Sparse, ind: &[u32], v: Value) -> bool
+    requires { s.n ≤ length ind.now }
+    ensures { result ≡ held_b ind.now s.n s.size (place_in s v.0) }
+{
+    holds(ind, s.n, s.size, place(s, v))
 }
 
 // ---- well-formedness
@@ -101,11 +99,9 @@ fn all_between(val: &[u32], size: u32, min: u32, max: u32) -> bool
     ensures { result ≡ all_b (between val.now min max) size }
 {
     let mut so = true;
-    let mut k = 0u32;
-    while k < size {
+    for k in 0..size {
         let x = val[k as usize];
         so = so & ((min <= x) & (x <= max));
-        k += 1;
     }
     so
 }
@@ -116,13 +112,7 @@ fn bounds_ok(ind: &[u32], val: &[u32], n: u32, size: u32, min: u32, max: u32) ->
     requires size_le_n { size ≤ n }
     ensures { result ≡ bounds_b ind.now val.now n size min max }
 {
-    if !holds(ind, n, size, min) {
-        return false;
-    }
-    if !holds(ind, n, size, max) {
-        return false;
-    }
-    all_between(val, size, min, max)
+    holds(ind, n, size, min) && holds(ind, n, size, max) && all_between(val, size, min, max)
 }
 
 // Does a state fit two orderings?
@@ -130,14 +120,7 @@ pub fn fits(ind: &[u32], val: &[u32], n: u32, t: SparseState) -> bool
     requires { (n ≤ length ind.now) × (n ≤ length val.now) }
     ensures { result ≡ fits_b ind.now val.now n t }
 {
-    let size = t.size;
-    if size > n {
-        return false;
-    }
-    if size == 0 {
-        return true;
-    }
-    bounds_ok(ind, val, n, size, t.min, t.max)
+    t.size <= n && (t.size == 0 || bounds_ok(ind, val, n, t.size, t.min, t.max))
 }
 
 // What `save_state` keeps.
@@ -156,14 +139,7 @@ fn is_sound(s: Sparse, ind: &[u32], val: &[u32]) -> bool
     requires { (s.n ≤ length ind.now) × (s.n ≤ length val.now) }
     ensures { result ≡ sound_b (full s ind.now val.now) }
 {
-    let n = s.n;
-    if !fits_i32(s.off, n) {
-        return false;
-    }
-    if !order::is_inverse(ind, val, n) {
-        return false;
-    }
-    fits(ind, val, n, state(s))
+    fits_i32(s.off, s.n) && order::is_inverse(ind, val, s.n) && fits(ind, val, s.n, state(s))
 }
 
 // Have both orderings room for the universe?
@@ -171,26 +147,24 @@ fn has_room(s: Sparse, ind: &[u32], val: &[u32]) -> bool
     ensures { result ≡ room_b (full s ind.now val.now) }
 {
     let n = s.n as usize;
-    if ind.len() < n {
-        return false;
-    }
-    n <= val.len()
+    n <= ind.len() && n <= val.len()
 }
 
-// May a call work on what it is lent?
-pub fn check(s: Sparse, ind: &[u32], val: &[u32]) -> Verdict
-    ensures { result ≡ verdict_of (full s ind.now val.now) }
+// A test that must hold, and why a call is refused where it doesn't.
+pub fn granted(so: bool, why: Refusal) -> Result<(), Refusal>
+    ensures { MatchResult result (λ _. so ≡ true) (λ e. (so ≡ false) × (e ≡ why)) }
 {
-    if s.n > WIDEST {
-        return Verdict::Refused(Refusal::TooWide);
-    }
-    if !has_room(s, ind, val) {
-        return Verdict::Refused(Refusal::Short);
-    }
-    if !is_sound(s, ind, val) {
-        return Verdict::Refused(Refusal::Broken);
-    }
-    Verdict::Fine
+    if so { Ok(()) } else { Err(why) }
+}
+
+// May a call work on what it is lent? A set that is accepted is well formed.
+pub fn check(s: Sparse, ind: &[u32], val: &[u32]) -> Result<(), Refusal>
+    ensures verdict { result ≡ verdict_of (full s ind.now val.now) }
+    ensures well { IfOk result (λ _. Well s ind.now val.now) }
+{
+    granted(s.n <= WIDEST, Refusal::TooWide)?;
+    granted(has_room(s, ind, val), Refusal::Short)?;
+    granted(is_sound(s, ind, val), Refusal::Broken)
 }
 
 // And on two sets?
@@ -201,28 +175,36 @@ pub fn check_both(
     t: Sparse,
     tind: &[u32],
     tval: &[u32],
-) -> Verdict
-    ensures { result ≡ both_of (full s ind.now val.now) (full t tind.now tval.now) }
+) -> Result<(), Refusal>
+    ensures verdict { result ≡ both_of (full s ind.now val.now) (full t tind.now tval.now) }
+    ensures well { IfOk result (λ _. Well s ind.now val.now) }
+    ensures t_well { IfOk result (λ _. Well t tind.now tval.now) }
 {
-    if s.n > WIDEST {
-        return Verdict::Refused(Refusal::TooWide);
+    granted(s.n <= WIDEST, Refusal::TooWide)?;
+    granted(t.n <= WIDEST, Refusal::TooWide)?;
+    granted(has_room(s, ind, val), Refusal::Short)?;
+    granted(has_room(t, tind, tval), Refusal::Short)?;
+    granted(is_sound(s, ind, val), Refusal::Broken)?;
+    granted(is_sound(t, tind, tval), Refusal::Broken)
+}
+
+// The same universe at another size and with other bounds.
+pub fn resized(s: Sparse, size: u32, min: u32, max: u32) -> Sparse
+    ensures { result ≡ record { off = s.off; n = s.n; size = size; min = min; max = max } }
+{
+    Sparse {
+        size,
+        min,
+        max,
+        ..s
     }
-    if t.n > WIDEST {
-        return Verdict::Refused(Refusal::TooWide);
-    }
-    if !has_room(s, ind, val) {
-        return Verdict::Refused(Refusal::Short);
-    }
-    if !has_room(t, tind, tval) {
-        return Verdict::Refused(Refusal::Short);
-    }
-    if !is_sound(s, ind, val) {
-        return Verdict::Refused(Refusal::Broken);
-    }
-    if !is_sound(t, tind, tval) {
-        return Verdict::Refused(Refusal::Broken);
-    }
-    Verdict::Fine
+}
+
+// Nothing held: the bounds stay.
+pub fn emptied(s: Sparse) -> Sparse
+    ensures { result ≡ record { off = s.off; n = s.n; size = 0; min = s.min; max = s.max } }
+{
+    resized(s, 0, s.min, s.max)
 }
 
 // ---- one offset
@@ -234,14 +216,12 @@ fn last_held(ind: &[u32], size: u32, lo: u32, hi: u32) -> u32
     ensures result_bound { lo < result → get_or ind.now result 0 < size }
     ensures by_index { (k : ℕ) → result < k → k < hi → size ≤ get_or ind.now k 0 }
 {
-    let mut v = hi - 1;
-    while lo < v {
+    for v in (lo + 1..hi).rev() {
         if ind[v as usize] < size {
             return v;
         }
-        v -= 1;
     }
-    v
+    lo
 }
 
 // The least held offset from lo and below hi, or hi.
@@ -267,10 +247,7 @@ fn new_max(ind: &[u32], n: u32, size: u32, min: u32, max: u32, o: u32) -> u32
     requires spans { 0 < size → Spans ind.now n size min max o }
     ensures { Greatest ind.now n size max result }
 {
-    if size == 0 {
-        return max;
-    }
-    if max != o {
+    if size == 0 || max != o {
         return max;
     }
     last_held(ind, size, min, o)
@@ -282,10 +259,7 @@ fn new_min(ind: &[u32], n: u32, size: u32, min: u32, max: u32, o: u32) -> u32
     requires spans { 0 < size → Spans ind.now n size min max o }
     ensures { Least ind.now n size min result }
 {
-    if size == 0 {
-        return min;
-    }
-    if min != o {
+    if size == 0 || min != o {
         return min;
     }
     first_held(ind, size, o + 1, max)
@@ -304,36 +278,22 @@ pub fn drop_at(s: Sparse, ind: &mut [u32], val: &mut [u32], o: u32) -> Sparse
     let last = size - 1;
     let l = val[last as usize];
     order::exchange(ind, val, o, l);
-    let mut next = s;
-    next.min = new_min(ind, n, last, s.min, s.max, o);
-    next.max = new_max(ind, n, last, s.min, s.max, o);
-    next.size = last;
-    next
+    let min = new_min(ind, n, last, s.min, s.max, o);
+    let max = new_max(ind, n, last, s.min, s.max, o);
+    resized(s, last, min, max)
 }
 
 // The least offset once o is added, and the greatest.
 fn low_with(size: u32, min: u32, o: u32) -> u32
     ensures { result ≡ low_with size min o }
 {
-    if size == 0 {
-        return o;
-    }
-    if o < min {
-        return o;
-    }
-    min
+    if size == 0 || o < min { o } else { min }
 }
 
 fn high_with(size: u32, max: u32, o: u32) -> u32
     ensures { result ≡ high_with size max o }
 {
-    if size == 0 {
-        return o;
-    }
-    if max < o {
-        return o;
-    }
-    max
+    if size == 0 || max < o { o } else { max }
 }
 
 // Adds the offset o of the universe, where it is not held.
@@ -343,19 +303,14 @@ pub fn add_at(s: Sparse, ind: &mut [u32], val: &mut [u32], o: u32) -> Sparse
 {
     let n = s.n;
     let size = s.size;
-    if o >= n {
-        return s;
-    }
-    if holds(ind, n, size, o) {
+    if o >= n || holds(ind, n, size, o) {
         return s;
     }
     let l = val[size as usize];
     order::exchange(ind, val, o, l);
-    let mut next = s;
-    next.min = low_with(size, s.min, o);
-    next.max = high_with(size, s.max, o);
-    next.size = size + 1;
-    next
+    let min = low_with(size, s.min, o);
+    let max = high_with(size, s.max, o);
+    resized(s, size + 1, min, max)
 }
 
 // Drops all but the offset o, or all where it is not held.
@@ -363,17 +318,12 @@ pub fn only_at(s: Sparse, ind: &mut [u32], val: &mut [u32], o: u32) -> Sparse
     requires { Well s ind.old val.old }
     ensures { full result ind.new val.new ≡ only_at (full s ind.old val.old) o }
 {
-    let mut next = s;
     if !holds(ind, s.n, s.size, o) {
-        next.size = 0;
-        return next;
+        return emptied(s);
     }
     let l = val[0];
     order::exchange(ind, val, o, l);
-    next.min = o;
-    next.max = o;
-    next.size = 1;
-    next
+    resized(s, 1, o, o)
 }
 
 // ---- runs of offsets
@@ -384,10 +334,8 @@ fn drop_run(s: Sparse, ind: &mut [u32], val: &mut [u32], from: u32, to: u32) -> 
     ensures { full result ind.new val.new ≡ drop_run (full s ind.old val.old) from (to - from) }
 {
     let mut cur = s;
-    let mut o = from;
-    while o < to {
+    for o in from..to {
         cur = drop_at(cur, ind, val, o);
-        o += 1;
     }
     cur
 }
@@ -398,9 +346,7 @@ pub fn from_cut(s: Sparse, ind: &mut [u32], val: &mut [u32], cut: u32) -> Sparse
     ensures { full result ind.new val.new ≡ from_cut (full s ind.old val.old) cut }
 {
     if s.max < cut {
-        let mut next = s;
-        next.size = 0;
-        return next;
+        return emptied(s);
     }
     drop_run(s, ind, val, s.min, cut)
 }
@@ -411,9 +357,7 @@ pub fn under_cut(s: Sparse, ind: &mut [u32], val: &mut [u32], cut: u32) -> Spars
     ensures { full result ind.new val.new ≡ under_cut (full s ind.old val.old) cut }
 {
     if cut <= s.min {
-        let mut next = s;
-        next.size = 0;
-        return next;
+        return emptied(s);
     }
     if s.size == 0 {
         return s;

@@ -1,6 +1,7 @@
 -- A state that was saved is exactly the set's again when it is restored, whatever calls touched the orderings since, so long as none of them was a
 -- union or a restore to a size above the saved one. Assumes nothing.
-use Rattle.std.specs.Prelude.{◌≡◌, refl, Bool, true, false, cond, ◌&&◌, List, [], ◌∷◌, ℕ, zero, suc, ◌+◌, ◌-◌, ◌≤◌, ◌<◌, ltb, ℤ, pos, ◌+ℤ◌, ◌-ℤ◌, length, get_or}
+use Rattle.std.specs.Prelude.{◌≡◌, refl, Bool, true, false, cond, ◌&&◌, List, [], ◌∷◌, ℕ, zero, suc, ◌+◌, ◌-◌, ◌≤◌, ◌<◌, ltb, ℤ, pos, ◌+ℤ◌, ◌-ℤ◌, length, get_or, Result}
+use Rattle.std.specs.declared.result.Result.TheVariants.{Ok, Err}
 use Rattle.std.proofs.Common.{sym, ap, ◌∙◌, subst, arith, lt-ltb}
 use Rattle.std.proofs.Math.Decide.{ℕ_discrete}
 use Rattle.offset.specs.Places.{cut_of}
@@ -12,8 +13,6 @@ use Rattle.rules.specs.declared.Refusal.{Refusal}
 use Rattle.rules.specs.declared.Refusal.TheVariants.{BadState, NoRoom}
 use Rattle.sparse_inner.specs.declared.Sparse.{Sparse}
 use Rattle.sparse_inner.specs.declared.SparseState.{SparseState}
-use Rattle.sparse_inner.specs.declared.Verdict.{Verdict}
-use Rattle.sparse_inner.specs.declared.Verdict.TheVariants.{Fine, Refused}
 use Rattle.sparse_inner.specs.Set.{Full, full, over, Held, held_b, Well, WellF, place_in, is_held, state_of, fits_b, verdict_of, both_of}
 use Rattle.sparse_inner.specs.Change.{holds_at, dropped, drop_at, drop_where, drop_run, emptied, alone, only_at, from_cut, under_cut, resized}
 use Rattle.sparse_inner.proofs.Sets.{held_of, of-held, l_lt, l-at}
@@ -22,9 +21,6 @@ use Rattle.sparse_inner.proofs.Drops.{drop-at-well}
 use Rattle.sparse_inner.proofs.Only.{only-at-well, first-lt, first-at}
 use Rattle.sparse_inner.proofs.Runs.{Frame, frame_same, frame-trans, drop-frame, hold-of, emptied-well}
 use Rattle.sparse.specs.Calls.{After, after, unless, remove_of, remove_all_of, remove_all_but_of, remove_below_of, remove_above_of, restated, restore_of}
-use Rattle.sparse.specs.declared.Outcome.TheVariants as outcome
-use Rattle.sparse.specs.declared.Told.{Told}
-use Rattle.sparse.specs.declared.Outcome.{Outcome}
 use Rattle.sparse_pairs.specs.Calls.{drop_each, Pared, pared, parted, part_of}
 use Rattle.sparse_laws.proofs.Drops.{only-frame}
 
@@ -176,9 +172,9 @@ on_step {f} {g} {h} a b = record {
 }
 
 -- a call on an accepted set leaves what it says; on a refused one, what it was lent
-on-verdict : {A : Type 0} (P : A → Type 0) (w : Verdict) (r : Refusal → A) (a : A) → ((why : Refusal) → P (r why)) → P a → P (unless w r a)
-on-verdict P Fine r a no' yes' = yes'
-on-verdict P (Refused why) r a no' yes' = no' why
+on-verdict : {A : Type 0} (P : A → Type 0) (w : Result Unit Refusal) (r : Refusal → A) (a : A) → ((why : Refusal) → P (r why)) → P a → P (unless w r a)
+on-verdict P (Ok tt) r a no' yes' = yes'
+on-verdict P (Err why) r a no' yes' = no' why
 
 restated-well : (g : Full) (t : SparseState) → WellF g → fits_b g.ind g.val g.set.n t ≡ true → WellF (restated g t)
 restated-well g t W e =
@@ -198,49 +194,49 @@ unfolding remove_of remove_all_of remove_all_but_of remove_below_of remove_above
 since-stays {f} W saved = record { frame = frame_same f; smaller = omega arith; well = W; kept = λ o. refl }
 since-stays {f} W (removed {g} r v) =
     let a = since-stays W r in
-    on-verdict (λ (x : After Told). Stays f x.left) (verdict_of g) _ _ (λ why. a) (on_step a (step-drop g (place_in g.set v.0) a.well))
+    on-verdict (λ (x : After (Result Bool Refusal)). Stays f x.left) (verdict_of g) _ _ (λ why. a) (on_step a (step-drop g (place_in g.set v.0) a.well))
 since-stays {f} W (removed-all {g} r) =
     let a = since-stays W r in
-    on-verdict (λ (x : After Outcome). Stays f x.left) (verdict_of g) _ _ (λ why. a) (on_step a (step-empty g a.well))
+    on-verdict (λ (x : After (Result Unit Refusal)). Stays f x.left) (verdict_of g) _ _ (λ why. a) (on_step a (step-empty g a.well))
 since-stays {f} W (removed-all-but {g} r v) =
     let a = since-stays W r in
-    on-verdict (λ (x : After Outcome). Stays f x.left) (verdict_of g) _ _ (λ why. a) (on_step a (step-only g (place_in g.set v.0) a.well))
+    on-verdict (λ (x : After (Result Unit Refusal)). Stays f x.left) (verdict_of g) _ _ (λ why. a) (on_step a (step-only g (place_in g.set v.0) a.well))
 since-stays {f} W (removed-below {g} r v) =
     let a = since-stays W r in
-    on-verdict (λ (x : After Outcome). Stays f x.left) (verdict_of g) _ _ (λ why. a) (on_step a (step_from g (cut_of g.set.n (v.0 -ℤ g.set.off)) a.well))
+    on-verdict (λ (x : After (Result Unit Refusal)). Stays f x.left) (verdict_of g) _ _ (λ why. a) (on_step a (step_from g (cut_of g.set.n (v.0 -ℤ g.set.off)) a.well))
 since-stays {f} W (removed-above {g} r v) =
     let a = since-stays W r in
-    on-verdict (λ (x : After Outcome). Stays f x.left) (verdict_of g) _ _ (λ why. a) (on_step a (step-under g (cut_of g.set.n ((v.0 -ℤ g.set.off) +ℤ pos 1)) a.well))
+    on-verdict (λ (x : After (Result Unit Refusal)). Stays f x.left) (verdict_of g) _ _ (λ why. a) (on_step a (step-under g (cut_of g.set.n ((v.0 -ℤ g.set.off) +ℤ pos 1)) a.well))
 since-stays {f} W (parted-off {g} r h want scratch) =
     let a = since-stays W r in
     on-verdict (λ (x : Pared). Stays f x.left) (both_of g h) _ _ (λ why. a) (go a (ltb (length scratch) g.set.size))
   where
-    go : Stays f g → (b : Bool) → Stays f (cond b (pared (outcome.Refused NoRoom) g scratch) (pared outcome.Done (drop_each g (parted g h want)) (over (parted g h want) scratch))).left
+    go : Stays f g → (b : Bool) → Stays f (cond b (pared (Err NoRoom) g scratch) (pared (Ok tt) (drop_each g (parted g h want)) (over (parted g h want) scratch))).left
     go a true = a
     go a false = on_step a (step-each g (parted g h want) a.well)
 since-stays {f} W (restored-to {g} r t l) =
     let a = since-stays W r in
-    on-verdict (λ (x : After Outcome). Stays f x.left) (verdict_of g) _ _ (λ why. a) (go a (fits_b g.ind g.val g.set.n t) refl)
+    on-verdict (λ (x : After (Result Unit Refusal)). Stays f x.left) (verdict_of g) _ _ (λ why. a) (go a (fits_b g.ind g.val g.set.n t) refl)
   where
-    go : Stays f g → (b : Bool) → fits_b g.ind g.val g.set.n t ≡ b → Stays f (cond b (after outcome.Done (restated g t)) (after (outcome.Refused BadState) g)).left
+    go : Stays f g → (b : Bool) → fits_b g.ind g.val g.set.n t ≡ b → Stays f (cond b (after {A = Result Unit Refusal} (Ok tt) (restated g t)) (after (Err BadState) g)).left
     go a true e = record { frame = record { off = a.frame.off; n = a.frame.n; ind = a.frame.ind; val = a.frame.val }; smaller = l; well = restated-well g t a.well e; kept = a.kept }
     go a false e = a
 
 -- ---- restoring
 pub restore-exact : {f g : Full} → WellF f → Since f g
-    → (restore_of g (state_of f.set) ≡ after outcome.Done (full f.set g.ind g.val)) × WellF (full f.set g.ind g.val) × ((z : ℤ) → is_held (full f.set g.ind g.val) z ≡ is_held f z)
+    → (restore_of g (state_of f.set) ≡ after (Ok tt) (full f.set g.ind g.val)) × WellF (full f.set g.ind g.val) × ((z : ℤ) → is_held (full f.set g.ind g.val) z ≡ is_held f z)
 unfolding restore_of is_held
 restore-exact {f} {g} W r =
     let a = since-stays W r in
     let F = a.frame in
     let U : Well f.set g.ind g.val = kept-well f.set f.ind f.val g.ind g.val W a.kept (subst (Inverse g.ind g.val) F.n a.well.inverse) (subst (λ (m : ℕ). m ≤ length g.ind) F.n a.well.room-ind) (subst (λ (m : ℕ). m ≤ length g.val) F.n a.well.room-val) in
     let e : fits_b g.ind g.val g.set.n (state_of f.set) ≡ true = ap (λ (m : ℕ). fits_b g.ind g.val m (state_of f.set)) F.n ∙ of-fits g.ind g.val f.set.n (state_of f.set) U.inverse (record { within = U.within; bounds = U.bounds }) in (
-      rw (of-well g a.well, e) (λ i. after outcome.Done (full (record { off = F.off i; n = F.n i; size = f.set.size; min = f.set.min; max = f.set.max }) g.ind g.val)),
+      rw (of-well g a.well, e) (λ i. after (Ok tt) (full (record { off = F.off i; n = F.n i; size = f.set.size; min = f.set.min; max = f.set.max }) g.ind g.val)),
       U,
       λ z. a.kept (place_in f.set z),
     )
 
 -- a state that doesn't fit is refused, and nothing changes
-pub bad-state : (g : Full) (t : SparseState) → WellF g → (Fits g.ind g.set.n t → ⊥) → restore_of g t ≡ after (outcome.Refused BadState) g
+pub bad-state : (g : Full) (t : SparseState) → WellF g → (Fits g.ind g.set.n t → ⊥) → restore_of g t ≡ after (Err BadState) g
 unfolding restore_of
 bad-state g t W no' = rw (of-well g W, not_yes (fits_b g.ind g.val g.set.n t) (λ e. no' (fits-of g.ind g.val g.set.n t W.inverse e)))

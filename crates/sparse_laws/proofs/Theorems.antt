@@ -1,6 +1,7 @@
 -- Each call on a well-formed set, seen through the plain set of held values: it is accepted, it answers and holds what 01 says, and what it leaves is
 -- well formed. Assumes nothing.
 use Rattle.std.specs.Prelude.{◌≡◌, Bool, true, false, not, ◌&&◌, ◌||◌, ◌≤◌, ℤ, pos, ◌+ℤ◌, ◌-ℤ◌, length}
+use Rattle.std.specs.declared.result.Result.TheVariants.{Ok}
 use Rattle.std.specs.Int.Signed.{lt_z, le_z}
 use Rattle.std.proofs.Common.{sym, ap, ◌∙◌, le-ltb}
 use Rattle.offset.specs.Places.{cut_of}
@@ -13,7 +14,6 @@ use Rattle.sparse_inner.proofs.Drops.{drop-at-well}
 use Rattle.sparse_inner.proofs.Only.{only-at-well}
 use Rattle.sparse_inner.proofs.Runs.{emptied-well, from-cut-well, under-cut-well}
 use Rattle.sparse.specs.Calls.{remove_of, remove_all_of, remove_all_but_of, remove_below_of, remove_above_of}
-use Rattle.sparse.specs.declared.Told.TheVariants as told
 use Rattle.sparse_pairs.specs.Calls.{drop_each, add_each, parted, part_of, intersect_of, diff_of, union_of}
 use Rattle.sparse_laws.proofs.Held.{members}
 use Rattle.sparse_laws.proofs.Drops.{remove-holds, remove-all-holds, remove-all-but-holds, remove-below-holds, remove-above-holds}
@@ -33,9 +33,9 @@ module _ (f : Full) (W : WellF f) where
   also q z = ap (λ (b : Bool). b && q z) (sym (members f W z))
 
   -- remove answers whether the value was held, and drops it
-  pub remove-answer : (v : Value) → (remove_of f v).answer ≡ told.Is (has v.0 (set_of f))
+  pub remove-answer : (v : Value) → (remove_of f v).answer ≡ Ok (has v.0 (set_of f))
   unfolding remove_of
-  remove-answer v = rw (of-well f W) (ap told.Is (sym (members f W v.0)))
+  remove-answer v = rw (of-well f W) (ap Ok (sym (members f W v.0)))
 
   pub remove-set : (v : Value) → Holds (remove_of f v).left (λ z. has z (set_of f) && not (same z v.0))
   unfolding remove_of

@@ -1,35 +1,33 @@
 -- A universe that has room, all held over the identity, is a well-formed set. Assumes nothing.
-use Rattle.std.specs.Prelude.{◌≡◌, refl, Bool, true, false, cond, ◌&&◌, List, [], ◌∷◌, ℕ, zero, suc, ◌+◌, ◌-◌, ◌≤◌, ◌<◌, leb, ltb, ℤ, pos, negsuc, ◌+ℤ◌, length}
+use Rattle.std.specs.Prelude.{◌≡◌, refl, Bool, true, false, cond, ◌&&◌, List, [], ◌∷◌, ℕ, zero, suc, ◌+◌, ◌-◌, ◌≤◌, ◌<◌, leb, ltb, ℤ, pos, negsuc, ◌+ℤ◌, length, Result}
+use Rattle.std.specs.declared.result.Result.TheVariants.{Ok, Err}
 use Rattle.std.specs.Int.Signed.{le_z, mag}
 use Rattle.std.specs.Int.{w32}
-use Rattle.std.proofs.Common.{sym, ap, ◌∙◌, subst, arith, SFits, leb-true, le-leb, ltb-true, ltb-false}
+use Rattle.std.proofs.Common.{ap, ◌∙◌, subst, arith, SFits, leb-true, le-leb, ltb-true, ltb-false}
 use Rattle.std.proofs.Math.IntN.{+ℤ_idr}
 use Rattle.offset.specs.Places.{span_of}
 use Rattle.offset.specs.Universe.{span_last}
 use Rattle.order.specs.Order.{counted}
 use Rattle.order.proofs.Counted.{length-counted, counted-at, counted-inverse}
 use Rattle.order.proofs.Orders.{and_left, and_right}
+use Rattle.rules.specs.declared.Refusal.{Refusal}
 use Rattle.rules.specs.declared.Refusal.TheVariants.{TooWide, Short}
-use Rattle.sparse_inner.specs.declared.Verdict.TheVariants.{Fine, Refused}
 use Rattle.sparse_inner.specs.Set.{Held, WellF, widest}
-use Rattle.sparse_inner.proofs.Checks.{never}
-use Rattle.ends.specs.Ends.{smallest_of, largest_of}
 use Rattle.rules.specs.Sets.{Chutes}
-use Rattle.sparse_make.specs.declared.Made.TheVariants.{Set}
-use Rattle.sparse_make.specs.Calls.{making, whole, unless, room_for, filled, sifted_of, from_values_of}
+use Rattle.sparse_make.specs.Calls.{making, whole, room_for, filled, from_values_of}
 
 pub record Room (n : ℕ) (ind val : List ℕ) : Type 0 where
   pub narrow : n ≤ widest
   pub in-ind : n ≤ length ind
   pub in-val : n ≤ length val
 
-pub room_of : (n : ℕ) (ind val : List ℕ) → room_for n ind val ≡ Fine → Room n ind val
+pub room_of : (n : ℕ) (ind val : List ℕ) → room_for n ind val ≡ Ok tt → Room n ind val
 unfolding room_for
 room_of n ind val e = go (leb n widest) refl (leb n (length ind) && leb n (length val)) refl e
   where
-    go : (a : Bool) → leb n widest ≡ a → (b : Bool) → leb n (length ind) && leb n (length val) ≡ b → cond a (cond b Fine (Refused Short)) (Refused TooWide) ≡ Fine → Room n ind val
-    go false p b q r = never r
-    go true p false q r = never r
+    go : (a : Bool) → leb n widest ≡ a → (b : Bool) → leb n (length ind) && leb n (length val) ≡ b → ◌≡◌ {A = Result Unit Refusal} (cond a (cond b (Ok tt) (Err Short)) (Err TooWide)) (Ok tt) → Room n ind val
+    go false p b q r = absurd (cc)
+    go true p false q r = absurd (cc)
     go true p true q r = record {
       narrow = leb-true n widest p;
       in-ind = leb-true n (length ind) (and_left (leb n (length ind)) (leb n (length val)) q);
@@ -80,14 +78,9 @@ module _ (lo : ℤ) (n : ℕ) (ind val : List ℕ) (R : Room n ind val) where
     };
   }
 
--- ---- the set of some values, by whether there are any
+-- ---- the set of no values
 module _ (ind val : List ℕ) where
-  pub from-none : (vs : Chutes) → length vs ≡ 0 → from_values_of vs ind val ≡ making (Set (whole (pos 0) 0)) ind val
+  pub from-none : (vs : Chutes) → length vs ≡ 0 → from_values_of vs ind val ≡ making (Ok (whole (pos 0) 0)) ind val
   unfolding from_values_of
   from-none [] e = refl
   from-none (v ∷ vs) e = absurd (omega arith)
-
-  pub from_some : (vs : Chutes) (n : ℕ) → (length vs ≡ 0 → ⊥) → n ≡ span_of (smallest_of vs) (largest_of vs) → from_values_of vs ind val ≡ unless (room_for n ind val) ind val (sifted_of vs (filled (smallest_of vs) n ind val))
-  unfolding from_values_of
-  from_some [] n f e = absurd (f refl)
-  from_some (v ∷ vs) n f e = sym (ap (λ (m : ℕ). unless (room_for m ind val) ind val (sifted_of (v ∷ vs) (filled (smallest_of (v ∷ vs)) m ind val))) e)

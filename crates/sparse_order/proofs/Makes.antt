@@ -1,5 +1,7 @@
 -- The order in which a set is made: ascending, and from values the absent ones are taken out of it in ascending order. Assumes nothing.
-use Rattle.std.specs.Prelude.{◌≡◌, refl, Bool, true, not, List, [], ◌∷◌, ◌++◌, map, ℕ, zero, suc, ◌≤◌, T, ℤ, pos, ◌+ℤ◌, length, take}
+use Rattle.std.specs.Prelude.{◌≡◌, refl, Bool, true, not, List, [], ◌∷◌, ◌++◌, map, ℕ, zero, suc, ◌≤◌, T, ℤ, pos, ◌+ℤ◌, length, take, Result}
+use Rattle.std.specs.declared.result.Result.TheVariants.{Ok, Err}
+use Rattle.rules.specs.declared.Refusal.{Refusal}
 use Rattle.std.specs.Int.Signed.{lt_z}
 use Rattle.std.specs.Int.{w32}
 use Rattle.std.proofs.Common.{sym, ap, ◌∙◌, subst, arith, drop_of_length-le, take-suc-set, length-take-le, SFits}
@@ -13,11 +15,8 @@ use Rattle.rules.specs.Sets.{Chutes, has, keep}
 use Rattle.rules.proofs.SetLaws.{keep-within}
 use Rattle.rules.proofs.Tests.{is_true}
 use Rattle.sparse_inner.specs.declared.Sparse.{Sparse}
-use Rattle.sparse_inner.specs.declared.Verdict.{Verdict}
-use Rattle.sparse_inner.specs.declared.Verdict.TheVariants as verdict
 use Rattle.sparse_inner.specs.Set.{Full, full, WellF, value_at, set_of}
 use Rattle.sparse_inner.proofs.Runs.{Frame, where-well, where-frame}
-use Rattle.sparse_make.specs.declared.Made.TheVariants as made
 use Rattle.sparse_make.specs.Calls.{Making, making, whole, unless, room_for, filled, between_of, sifted_of, from_values_of}
 use Rattle.sparse_make.proofs.Makes.{Room, room_of, span-far, filled-well}
 use Rattle.sparse_laws.proofs.Held.{members}
@@ -77,20 +76,20 @@ record Makes (n : ℕ) (ind val : List ℕ) (g h : Full) : Type 0 where
   room : Room n ind val
   is : g ≡ h
 
-makes : (n : ℕ) (ind val : List ℕ) (g : Full) (s : Sparse) (ind' val' : List ℕ) → unless (room_for n ind val) ind val g ≡ making (made.Set s) ind' val' → Makes n ind val g (full s ind' val')
+makes : (n : ℕ) (ind val : List ℕ) (g : Full) (s : Sparse) (ind' val' : List ℕ) → unless (room_for n ind val) ind val g ≡ making (Ok s) ind' val' → Makes n ind val g (full s ind' val')
 makes n ind val g s ind' val' e = go (room_for n ind val) refl e
   where
-    go : (w : Verdict) → room_for n ind val ≡ w → unless w ind val g ≡ making (made.Set s) ind' val' → Makes n ind val g (full s ind' val')
-    go verdict.Fine p q =
-        let a : made.Set g.set ≡ made.Set s = ap (λ (m : Making). m.answer) q in
+    go : (w : Result Unit Refusal) → room_for n ind val ≡ w → unless w ind val g ≡ making (Ok s) ind' val' → Makes n ind val g (full s ind' val')
+    go (Ok tt) p q =
+        let a : Ok g.set ≡ Ok s = ap (λ (m : Making). m.answer) q in
         let b : g.set ≡ s = cc in
         record { room = room_of n ind val p; is = λ i. full (b i) (q i).ind (q i).val }
-    go (verdict.Refused why) p q =
-        let a : made.Refused why ≡ made.Set s = ap (λ (m : Making). m.answer) q in
+    go (Err why) p q =
+        let a : Err why ≡ Ok s = ap (λ (m : Making). m.answer) q in
         absurd (let z : ◌≡◌ {A = ℕ} 0 1 = cc in omega arith)
 
 -- ---- the whole universe, ascending
-pub between-order : (lo hi : ℤ) (ind val : List ℕ) (s : Sparse) (ind' val' : List ℕ) → between_of lo hi ind val ≡ making (made.Set s) ind' val' → set_of (full s ind' val') ≡ up_from lo (span_of lo hi)
+pub between-order : (lo hi : ℤ) (ind val : List ℕ) (s : Sparse) (ind' val' : List ℕ) → between_of lo hi ind val ≡ making (Ok s) ind' val' → set_of (full s ind' val') ≡ up_from lo (span_of lo hi)
 unfolding between_of
 between-order lo hi ind val s ind' val' e =
     let m = makes (span_of lo hi) ind val (filled lo (span_of lo hi) ind val) s ind' val' e in
@@ -118,9 +117,9 @@ none ind val =
     let W : WellF (full (whole (pos 0) 0) ind val) = filled-well (pos 0) 0 ind val (record { narrow = omega arith; in-ind = omega arith; in-val = omega arith }) refl in
     record { holds = record { well = W; is = λ z. refl }; rest = refl; order = refl }
 
-made_none : (ind val : List ℕ) (s : Sparse) (ind' val' : List ℕ) → making (made.Set (whole (pos 0) 0)) ind val ≡ making (made.Set s) ind' val' → full (whole (pos 0) 0) ind val ≡ full s ind' val'
+made_none : (ind val : List ℕ) (s : Sparse) (ind' val' : List ℕ) → making (Ok (whole (pos 0) 0)) ind val ≡ making (Ok s) ind' val' → full (whole (pos 0) 0) ind val ≡ full s ind' val'
 made_none ind val s ind' val' e =
-    let a : made.Set (whole (pos 0) 0) ≡ made.Set s = ap (λ (m : Making). m.answer) e in
+    let a : Ok (whole (pos 0) 0) ≡ Ok s = ap (λ (m : Making). m.answer) e in
     let b : whole (pos 0) 0 ≡ s = cc in
     λ i. full (b i) (e i).ind (e i).val
 
@@ -150,7 +149,7 @@ module _ (v : ℤ) (vs : Chutes) (ind val : List ℕ) where
       frame : Frame begun (sifted_of (v ∷ vs) begun)
       frame = sifted-frame (v ∷ vs) begun
 
-pub from-values : (vs : Chutes) (ind val : List ℕ) (s : Sparse) (ind' val' : List ℕ) → ((z : ℤ) → T (has z vs) → SFits w32 z) → from_values_of vs ind val ≡ making (made.Set s) ind' val' → FromValues vs (full s ind' val')
+pub from-values : (vs : Chutes) (ind val : List ℕ) (s : Sparse) (ind' val' : List ℕ) → ((z : ℤ) → T (has z vs) → SFits w32 z) → from_values_of vs ind val ≡ making (Ok s) ind' val' → FromValues vs (full s ind' val')
 unfolding from_values_of
 from-values [] ind val s ind' val' fits e = subst (FromValues []) (made_none ind val s ind' val' e) (none ind val)
 from-values (v ∷ vs) ind val s ind' val' fits e =
@@ -160,7 +159,7 @@ from-values (v ∷ vs) ind val s ind' val' fits e =
     subst (FromValues (v ∷ vs)) m.is (sifted v vs ind val m.room (filled-well lo (span_of lo hi) ind val m.room (span-far lo hi (fits lo (first-in lt_z v vs)) (fits hi (first-in (λ y x. lt_z x y) v vs)))))
 
 -- the universe goes from the smallest value to the largest
-pub from-universe : (v : ℤ) (vs : Chutes) (ind val : List ℕ) (s : Sparse) (ind' val' : List ℕ) → from_values_of (v ∷ vs) ind val ≡ making (made.Set s) ind' val' → (s.off ≡ smallest_of (v ∷ vs)) × (s.n ≡ span_of (smallest_of (v ∷ vs)) (largest_of (v ∷ vs)))
+pub from-universe : (v : ℤ) (vs : Chutes) (ind val : List ℕ) (s : Sparse) (ind' val' : List ℕ) → from_values_of (v ∷ vs) ind val ≡ making (Ok s) ind' val' → (s.off ≡ smallest_of (v ∷ vs)) × (s.n ≡ span_of (smallest_of (v ∷ vs)) (largest_of (v ∷ vs)))
 unfolding from_values_of
 from-universe v vs ind val s ind' val' e =
     let lo = smallest_of (v ∷ vs) in

@@ -1,5 +1,6 @@
 -- No call writes a cell past n, whatever it is lent: only places of the universe are exchanged, and only in sets that are well formed. Assumes nothing.
-use Rattle.std.specs.Prelude.{◌≡◌, refl, Bool, true, false, not, cond, List, [], ◌∷◌, ℕ, zero, suc, ◌+◌, ◌-◌, ◌≤◌, ◌<◌, T, ltb, ℤ, pos, ◌+ℤ◌, ◌-ℤ◌, length, get_or, set, drop}
+use Rattle.std.specs.Prelude.{◌≡◌, refl, Bool, true, false, not, cond, List, [], ◌∷◌, ℕ, zero, suc, ◌+◌, ◌-◌, ◌≤◌, ◌<◌, T, ltb, ℤ, pos, ◌+ℤ◌, ◌-ℤ◌, length, get_or, set, drop, Result}
+use Rattle.std.specs.declared.result.Result.TheVariants.{Ok, Err}
 use Rattle.std.specs.Int.Signed.{lt_z}
 use Rattle.std.specs.Int.{w32}
 use Rattle.std.proofs.Common.{◌∙◌, subst, arith, drop-set-lt, SFits, ltb-true}
@@ -12,8 +13,6 @@ use Rattle.rules.specs.declared.Refusal.{Refusal}
 use Rattle.rules.specs.declared.Refusal.TheVariants.{BadState, NoRoom}
 use Rattle.rules.specs.declared.Value.{Value}
 use Rattle.sparse_inner.specs.declared.SparseState.{SparseState}
-use Rattle.sparse_inner.specs.declared.Verdict.{Verdict}
-use Rattle.sparse_inner.specs.declared.Verdict.TheVariants.{Fine, Refused}
 use Rattle.sparse_inner.specs.Set.{Full, over, WellF, place_in, value_at, set_of, fits_b, verdict_of, both_of}
 use Rattle.sparse_inner.specs.Change.{holds_at, resized, dropped, drop_at, drop_where, drop_run, added, add_at, alone, only_at, emptied, from_cut, under_cut}
 use Rattle.sparse_inner.proofs.Adds.{add-at-well, not-held, room}
@@ -24,9 +23,6 @@ use Rattle.sparse_inner.proofs.Only.{first-lt}
 use Rattle.sparse_inner.proofs.Runs.{hold-of, where-well}
 use Rattle.sparse_inner.proofs.Sets.{l_lt}
 use Rattle.sparse.specs.Calls.{After, after, unless, remove_of, remove_all_of, remove_all_but_of, remove_below_of, remove_above_of, restated, restore_of}
-use Rattle.sparse.specs.declared.Told.{Told}
-use Rattle.sparse.specs.declared.Outcome.{Outcome}
-use Rattle.sparse.specs.declared.Outcome.TheVariants as outcome
 use Rattle.sparse_make.specs.Calls.{Making, room_for, filled, between_of, sifted_of, from_values_of}
 use Rattle.sparse_make.specs.Calls as make
 use Rattle.sparse_make.proofs.Makes.{Room, room_of, span-far, filled-well}
@@ -137,36 +133,36 @@ past-under f cut W = go (ltb f.set.min cut)
     go false = past-emptied f
 
 -- ---- a call: refused, it leaves all as it came
-on-verdict : {A : Type 0} (P : A → Type 0) (w : Verdict) (r : Refusal → A) (a : A) → ((why : Refusal) → P (r why)) → (w ≡ Fine → P a) → P (unless w r a)
-on-verdict P Fine r a no' yes' = yes' refl
-on-verdict P (Refused why) r a no' yes' = no' why
+on-verdict : {A : Type 0} (P : A → Type 0) (w : Result Unit Refusal) (r : Refusal → A) (a : A) → ((why : Refusal) → P (r why)) → (w ≡ Ok tt → P a) → P (unless w r a)
+on-verdict P (Ok tt) r a no' yes' = yes' refl
+on-verdict P (Err why) r a no' yes' = no' why
 
 module _ (f : Full) where
   pub remove-past : (v : Value) → Past f (remove_of f v).left
   unfolding remove_of
-  remove-past v = on-verdict (λ (x : After Told). Past f x.left) (verdict_of f) _ _ (λ why. past-none f) (λ e. past-drop f (place_in f.set v.0) (well-of f e))
+  remove-past v = on-verdict (λ (x : After (Result Bool Refusal)). Past f x.left) (verdict_of f) _ _ (λ why. past-none f) (λ e. past-drop f (place_in f.set v.0) (well-of f e))
 
   pub remove-all-past : Past f (remove_all_of f).left
   unfolding remove_all_of
-  remove-all-past = on-verdict (λ (x : After Outcome). Past f x.left) (verdict_of f) _ _ (λ why. past-none f) (λ e. past-emptied f)
+  remove-all-past = on-verdict (λ (x : After (Result Unit Refusal)). Past f x.left) (verdict_of f) _ _ (λ why. past-none f) (λ e. past-emptied f)
 
   pub remove-all-but-past : (v : Value) → Past f (remove_all_but_of f v).left
   unfolding remove_all_but_of
-  remove-all-but-past v = on-verdict (λ (x : After Outcome). Past f x.left) (verdict_of f) _ _ (λ why. past-none f) (λ e. past-only f (place_in f.set v.0) (well-of f e))
+  remove-all-but-past v = on-verdict (λ (x : After (Result Unit Refusal)). Past f x.left) (verdict_of f) _ _ (λ why. past-none f) (λ e. past-only f (place_in f.set v.0) (well-of f e))
 
   pub remove-below-past : (v : Value) → Past f (remove_below_of f v).left
   unfolding remove_below_of
-  remove-below-past v = on-verdict (λ (x : After Outcome). Past f x.left) (verdict_of f) _ _ (λ why. past-none f) (λ e. past-from f (cut_of f.set.n (v.0 -ℤ f.set.off)) (well-of f e))
+  remove-below-past v = on-verdict (λ (x : After (Result Unit Refusal)). Past f x.left) (verdict_of f) _ _ (λ why. past-none f) (λ e. past-from f (cut_of f.set.n (v.0 -ℤ f.set.off)) (well-of f e))
 
   pub remove-above-past : (v : Value) → Past f (remove_above_of f v).left
   unfolding remove_above_of
-  remove-above-past v = on-verdict (λ (x : After Outcome). Past f x.left) (verdict_of f) _ _ (λ why. past-none f) (λ e. past-under f (cut_of f.set.n ((v.0 -ℤ f.set.off) +ℤ pos 1)) (well-of f e))
+  remove-above-past v = on-verdict (λ (x : After (Result Unit Refusal)). Past f x.left) (verdict_of f) _ _ (λ why. past-none f) (λ e. past-under f (cut_of f.set.n ((v.0 -ℤ f.set.off) +ℤ pos 1)) (well-of f e))
 
   pub restore-past : (t : SparseState) → Past f (restore_of f t).left
   unfolding restore_of
-  restore-past t = on-verdict (λ (x : After Outcome). Past f x.left) (verdict_of f) _ _ (λ why. past-none f) (λ e. go (fits_b f.ind f.val f.set.n t))
+  restore-past t = on-verdict (λ (x : After (Result Unit Refusal)). Past f x.left) (verdict_of f) _ _ (λ why. past-none f) (λ e. go (fits_b f.ind f.val f.set.n t))
     where
-      go : (b : Bool) → Past f (cond b (after outcome.Done (restated f t)) (after (outcome.Refused BadState) f)).left
+      go : (b : Bool) → Past f (cond b (after {A = Result Unit Refusal} (Ok tt) (restated f t)) (after (Err BadState) f)).left
       go true = record { n = refl; ind = refl; val = refl }
       go false = past-none f
 
@@ -175,13 +171,13 @@ module _ (f : Full) where
   unfolding part_of
   part-past g want scratch = on-verdict (λ (x : Pared). Past f x.left) (both_of f g) _ _ (λ why. past-none f) (λ e. go (ltb (length scratch) f.set.size) (both_of_lem f g e).0)
     where
-      go : (b : Bool) → WellF f → Past f (cond b (pared (outcome.Refused NoRoom) f scratch) (pared outcome.Done (drop_each f (parted f g want)) (over (parted f g want) scratch))).left
+      go : (b : Bool) → WellF f → Past f (cond b (pared (Err NoRoom) f scratch) (pared (Ok tt) (drop_each f (parted f g want)) (over (parted f g want) scratch))).left
       go true W = past-none f
       go false W = past-each f (parted f g want) W
 
   pub union-past : (g : Full) → Past f (union_of f g).left
   unfolding union_of
-  union-past g = on-verdict (λ (x : After Outcome). Past f x.left) (both_of f g) _ _ (λ why. past-none f) (λ e. past-adds f (set_of g) (both_of_lem f g e).0)
+  union-past g = on-verdict (λ (x : After (Result Unit Refusal)). Past f x.left) (both_of f g) _ _ (λ why. past-none f) (λ e. past-adds f (set_of g) (both_of_lem f g e).0)
 
 -- ---- a set made: n is the number of values that its universe has
 pub record Beyond (n : ℕ) (xs ys : List ℕ) (m : Making) : Type 0 where
@@ -196,9 +192,9 @@ past-counted (suc n) m xs h = drop-set-lt m (counted n xs) n n (omega arith) ∙
 beyond : (n : ℕ) (ind val : List ℕ) (g : Full) → (Room n ind val → (drop n g.ind ≡ drop n ind) × (drop n g.val ≡ drop n val)) → Beyond n ind val (make.unless (room_for n ind val) ind val g)
 beyond n ind val g h = go (room_for n ind val) refl
   where
-    go : (w : Verdict) → room_for n ind val ≡ w → Beyond n ind val (make.unless w ind val g)
-    go Fine e = record { ind = (h (room_of n ind val e)).0; val = (h (room_of n ind val e)).1 }
-    go (Refused why) e = record { ind = refl; val = refl }
+    go : (w : Result Unit Refusal) → room_for n ind val ≡ w → Beyond n ind val (make.unless w ind val g)
+    go (Ok tt) e = record { ind = (h (room_of n ind val e)).0; val = (h (room_of n ind val e)).1 }
+    go (Err why) e = record { ind = refl; val = refl }
 
 module _ (ind val : List ℕ) where
   pub between-past : (lo hi : ℤ) → Beyond (span_of lo hi) ind val (between_of lo hi ind val)

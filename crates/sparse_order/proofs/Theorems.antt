@@ -1,6 +1,8 @@
 -- Each call on well-formed sets, seen through the order of the held values (`set_of`, the values of the first `size` cells): what stands where after it.
 -- Assumes nothing.
-use Rattle.std.specs.Prelude.{◌≡◌, Bool, true, false, not, cond, ◌&&◌, List, [], ◌∷◌, ◌++◌, ℕ, ◌-◌, ◌≤◌, ◌<◌, T, ℤ, pos, ◌+ℤ◌, ◌-ℤ◌, length, get_or, drop}
+use Rattle.std.specs.Prelude.{◌≡◌, Bool, true, false, not, cond, ◌&&◌, List, [], ◌∷◌, ◌++◌, ℕ, ◌-◌, ◌≤◌, ◌<◌, T, ℤ, pos, ◌+ℤ◌, ◌-ℤ◌, length, get_or, drop, Result}
+use Rattle.std.specs.declared.result.Result.TheVariants.{Ok}
+use Rattle.rules.specs.declared.Refusal.{Refusal}
 use Rattle.std.specs.Int.Signed.{lt_z, le_z}
 use Rattle.std.specs.Int.{w32}
 use Rattle.std.proofs.Common.{sym, ap, ◌∙◌, arith, SFits, ne_eqb, le-ltb, ltb-true, ltb-false}
@@ -20,10 +22,6 @@ use Rattle.sparse_inner.proofs.Drops.{drop-held}
 use Rattle.sparse_inner.proofs.Runs.{hold-of}
 use Rattle.sparse_inner.proofs.Values.{cell-is, well-room}
 use Rattle.sparse.specs.Calls.{first_of, last_of, remove_of, remove_all_of, remove_all_but_of, remove_below_of, remove_above_of, restore_of}
-use Rattle.sparse.specs.declared.Found.{Found}
-use Rattle.sparse.specs.declared.Found.TheVariants as found
-use Rattle.sparse.specs.declared.Counted.TheVariants as counted
-use Rattle.sparse_make.specs.declared.Made.TheVariants as made
 use Rattle.sparse_make.specs.Calls.{making, new_of, new_unchecked_of, between_of, from_values_of}
 use Rattle.sparse_pairs.specs.Calls.{drop_each, parted, part_of, intersect_of, diff_of, union_of}
 use Rattle.sparse_values.specs.Calls.{start, complement_start, written, to_vec_of}
@@ -40,8 +38,8 @@ use Rattle.sparse_order.proofs.Rest.{drop-rest, each-rest, emptied-rest, alone_r
 use Rattle.sparse_order.proofs.Walks.{held-walk, complement-walk}
 use Rattle.sparse_order.proofs.Makes.{between-order, from-values, from-universe}
 
-abbrev at : ℤ → Found
-at z = found.At (record { 0 = z })
+abbrev at : ℤ → Result Value Refusal
+at z = Ok (record { 0 = z })
 
 -- ---- one set
 module _ (f : Full) (W : WellF f) where
@@ -154,11 +152,11 @@ module _ (f : Full) (W : WellF f) where
   restore-order t e = rw (of-well f W, e)
 
   -- the ends of the order
-  pub first-order : 0 < f.set.size → first_of f ≡ found.At (record { 0 = get_or (set_of f) 0 (pos 0) })
+  pub first-order : 0 < f.set.size → first_of f ≡ Ok (record { 0 = get_or (set_of f) 0 (pos 0) })
   unfolding first_of
   first-order h = rw (of-well f W, ne_eqb f.set.size 0 (λ e. omega arith)) (ap at (sym (cell-is f (well-room f W) 0 h)))
 
-  pub last-order : 0 < f.set.size → last_of f ≡ found.At (record { 0 = get_or (set_of f) (f.set.size - 1) (pos 0) })
+  pub last-order : 0 < f.set.size → last_of f ≡ Ok (record { 0 = get_or (set_of f) (f.set.size - 1) (pos 0) })
   unfolding last_of
   last-order h = rw (of-well f W, ne_eqb f.set.size 0 (λ e. omega arith)) (ap at (sym (cell-is f (well-room f W) (f.set.size - 1) (omega arith))))
 
@@ -170,10 +168,10 @@ module _ (f : Full) (W : WellF f) where
   complement-iter-order = complement-walk f W
 
   -- written over the first cells, the later ones untouched
-  pub to-vec-order : (cells : Chutes) → f.set.size ≤ length cells → to_vec_of f cells ≡ written (counted.Count f.set.size) (set_of f ++ drop f.set.size cells)
+  pub to-vec-order : (cells : Chutes) → f.set.size ≤ length cells → to_vec_of f cells ≡ written (Ok f.set.size) (set_of f ++ drop f.set.size cells)
   unfolding to_vec_of
   to-vec-order cells h =
-      rw (of-well f W, le-ltb (length cells) f.set.size h) (ap (λ (n : ℕ). written (counted.Count f.set.size) (set_of f ++ drop n cells)) (size_is f W))
+      rw (of-well f W, le-ltb (length cells) f.set.size h) (ap (λ (n : ℕ). written (Ok f.set.size) (set_of f ++ drop n cells)) (size_is f W))
 
 -- ---- two sets
 module _ (f g : Full) (U : WellF f) (W : WellF g) where
@@ -237,23 +235,23 @@ module _ (f g : Full) (U : WellF f) (W : WellF g) where
 -- ---- a set made
 module _ (ind val : List ℕ) (s : Sparse) (ind' val' : List ℕ) where
   -- the whole universe, ascending: ends in either order, or as given
-  pub new-order : (a b : Value) → new_of a b ind val ≡ making (made.Set s) ind' val' → set_of (full s ind' val') ≡ cond (lt_z b.0 a.0) (up_from b.0 (span_of b.0 a.0)) (up_from a.0 (span_of a.0 b.0))
+  pub new-order : (a b : Value) → new_of a b ind val ≡ making (Ok s) ind' val' → set_of (full s ind' val') ≡ cond (lt_z b.0 a.0) (up_from b.0 (span_of b.0 a.0)) (up_from a.0 (span_of a.0 b.0))
   unfolding new_of
   new-order a b e = go (lt_z b.0 a.0) e
     where
-      go : (t : Bool) → cond t (between_of b.0 a.0) (between_of a.0 b.0) ind val ≡ making (made.Set s) ind' val' → set_of (full s ind' val') ≡ cond t (up_from b.0 (span_of b.0 a.0)) (up_from a.0 (span_of a.0 b.0))
+      go : (t : Bool) → cond t (between_of b.0 a.0) (between_of a.0 b.0) ind val ≡ making (Ok s) ind' val' → set_of (full s ind' val') ≡ cond t (up_from b.0 (span_of b.0 a.0)) (up_from a.0 (span_of a.0 b.0))
       go true q = between-order b.0 a.0 ind val s ind' val' q
       go false q = between-order a.0 b.0 ind val s ind' val' q
 
-  pub new-unchecked-order : (a b : Value) → new_unchecked_of a b ind val ≡ making (made.Set s) ind' val' → set_of (full s ind' val') ≡ up_from a.0 (span_of a.0 b.0)
+  pub new-unchecked-order : (a b : Value) → new_unchecked_of a b ind val ≡ making (Ok s) ind' val' → set_of (full s ind' val') ≡ up_from a.0 (span_of a.0 b.0)
   unfolding new_unchecked_of
   new-unchecked-order a b e = between-order a.0 b.0 ind val s ind' val' e
 
   -- from the smallest value to the largest
-  pub from-values-universe : (v : ℤ) (vs : Chutes) → from_values_of (v ∷ vs) ind val ≡ making (made.Set s) ind' val' → (s.off ≡ smallest_of (v ∷ vs)) × (s.n ≡ span_of (smallest_of (v ∷ vs)) (largest_of (v ∷ vs)))
+  pub from-values-universe : (v : ℤ) (vs : Chutes) → from_values_of (v ∷ vs) ind val ≡ making (Ok s) ind' val' → (s.off ≡ smallest_of (v ∷ vs)) × (s.n ≡ span_of (smallest_of (v ∷ vs)) (largest_of (v ∷ vs)))
   from-values-universe v vs e = from-universe v vs ind val s ind' val' e
 
-  module _ (vs : Chutes) (fits : (z : ℤ) → T (has z vs) → SFits w32 z) (e : from_values_of vs ind val ≡ making (made.Set s) ind' val') where
+  module _ (vs : Chutes) (fits : (z : ℤ) → T (has z vs) → SFits w32 z) (e : from_values_of vs ind val ≡ making (Ok s) ind' val') where
     -- the listed values, and no other
     pub from-values-set : Holds (full s ind' val') (λ z. has z vs)
     from-values-set = (from-values vs ind val s ind' val' fits e).holds

@@ -1,15 +1,12 @@
 -- Values dropped or added one after the other, as a loop does it. Assumes nothing.
-use Rattle.std.specs.Prelude.{◌≡◌, refl, Bool, true, false, not, cond, [], ◌∷◌, ◌++◌, ℕ, ◌+◌, ◌≤◌, ◌<◌, ℤ, pos, length, get_or, take, drop}
+use Rattle.std.specs.Prelude.{◌≡◌, refl, Bool, true, false, not, cond, [], ◌∷◌, ◌++◌, ℕ, ◌+◌, ◌<◌, ℤ, pos, length, get_or, take, drop}
 use Rattle.std.specs.Bool.{beq}
-use Rattle.std.proofs.Common.{sym, ap, ◌∙◌, append-nil, add-one, arith, drop_of_length-le, drop-cons, length-take-le}
-use lib.Seq.{get_or-take}
+use Rattle.std.proofs.Common.{sym, ap, ◌∙◌, append-nil, add-one, drop-cons}
 use Rattle.rules.specs.Sets.{Chutes, keep, every}
-use Rattle.rules.proofs.SetLaws.{length-keep}
-use Rattle.sparse_inner.specs.Set.{Full, place_in, set_of, is_held}
+use Rattle.sparse_inner.specs.Set.{Full, place_in}
 use Rattle.sparse_inner.specs.Change.{drop_at, add_at}
 use Rattle.sparse_inner.proofs.Cells.{take_more}
-use Rattle.sparse_inner.proofs.Values.{length-set}
-use Rattle.sparse_pairs.specs.Calls.{drop_each, add_each, parted}
+use Rattle.sparse_pairs.specs.Calls.{drop_each, add_each}
 
 pub drop-step : (f : Full) (v : ℤ) (vs : Chutes) → drop_each f (v ∷ vs) ≡ drop_each (drop_at f (place_in f.set v)) vs
 unfolding drop_each
@@ -27,14 +24,9 @@ pub add-end : (f : Full) → add_each f [] ≡ f
 unfolding add_each
 add-end f = refl
 
--- the rest of the first m values
-pub from-value : (m : ℕ) (vs : Chutes) (i : ℕ) → m ≤ length vs → i < m → drop i (take m vs) ≡ get_or vs i (pos 0) ∷ drop (i + 1) (take m vs)
-from-value m vs i h l =
-    drop-cons (take m vs) i (pos 0) (omega (arith, length-take-le m vs h))
-    ∙ (λ j. get_or-take m vs i (pos 0) l j ∷ drop (sym (add-one i) j) (take m vs))
-
-pub past-values : (m : ℕ) (vs : Chutes) (i : ℕ) → m ≤ length vs → m ≤ i → drop i (take m vs) ≡ []
-past-values m vs i h l = drop_of_length-le (take m vs) {i = i} (omega (arith, length-take-le m vs h))
+-- the values from place i on
+pub from-value : (vs : Chutes) (i : ℕ) → i < length vs → drop i vs ≡ get_or vs i (pos 0) ∷ drop (i + 1) vs
+from-value vs i h = drop-cons vs i (pos 0) h ∙ (λ j. get_or vs i (pos 0) ∷ drop (sym (add-one i) j) vs)
 
 -- ---- tests of every value
 pub every-yes : (p : ℤ → Bool) (x : ℤ) (u : Chutes) → p x ≡ true → every p (x ∷ u) ≡ every p u
@@ -65,8 +57,3 @@ wanted true true = refl
 wanted true false = refl
 wanted false true = refl
 wanted false false = refl
-
--- at most what was held is parted off
-pub parted-short : (f g : Full) (want : Bool) → f.set.size ≤ length f.val → length (parted f g want) ≤ f.set.size
-unfolding parted
-parted-short f g want h = omega (arith, length-keep (λ v. cond want (is_held g v) (not (is_held g v))) (set_of f), length-set f h)

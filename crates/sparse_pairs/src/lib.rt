@@ -2,25 +2,18 @@
 //
 // The first set is the one that changes. A call is refused if either set isn't well formed, or if the scratch that it needs is smaller than the first
 // set, and then leaves all as it came.
-#![tactic(auto)]
+#![tactic(auto, unfolding(crate::specs::Calls::part_of, crate::specs::Calls::intersect_of, crate::specs::Calls::diff_of, crate::specs::Calls::union_of, crate::specs::Calls::is_subset_of, crate::specs::Calls::equals_of, sparse_inner::specs::Set::is_held))]
 
-ghost use Rattle.std.specs.Prelude.{◌≡◌, ◌≤◌, length, take};
+ghost use Rattle.std.specs.Prelude.{◌≡◌, ◌≤◌, length};
 ghost use Rattle.rules.specs.Sets.{every};
 ghost use Rattle.sparse_inner.specs.Set.{full, Well, set_of, is_held, over};
 ghost use Rattle.sparse.specs.Calls.{after};
 ghost use Rattle.sparse_pairs.specs.Calls.{drop_each, add_each, pared, parted, part_of, intersect_of, diff_of, union_of, is_subset_of, equals_of};
 
 use rules::{Refusal, Value};
-use sparse::{Narrowed, Outcome, Told};
-use sparse_inner::{Sparse, Verdict};
-
-// Is v held?
-fn has(t: Sparse, tind: &[u32], tval: &[u32], v: Value) -> bool
-    requires { Well t tind.now tval.now }
-    ensures { result ≡ is_held (full t tind.now tval.now) v.0 }
-{
-    sparse_inner::holds(tind, t.n, t.size, sparse_inner::place(t, v))
-}
+use sparse::Narrowed;
+use sparse::inner::{done, refused};
+use sparse_inner::Sparse;
 
 // Writes the values of s that t holds (want), or those that it does not, and answers how many they are.
 fn gather(
@@ -39,32 +32,26 @@ fn gather(
     ensures value { result ≡ length (parted (full s ind.now val.now) (full t tind.now tval.now) want) }
     ensures out_after { out.new ≡ over (parted (full s ind.now val.now) (full t tind.now tval.now) want) out.old }
 {
-    let size = s.size;
     let mut m: usize = 0;
-    let mut k = 0u32;
-    while k < size {
+    for k in 0..s.size {
         let v = sparse_inner::value(s, val[k as usize]);
-        if has(t, tind, tval, v) == want {
-            let x = v.0;
-            out[m] = x;
+        if sparse_inner::has(t, tind, v) == want {
+            out[m] = v.0;
             m += 1;
         }
-        k += 1;
     }
     m
 }
 
-// Drops the first m of the values, one after the other.
-fn drop_each(s: Sparse, ind: &mut [u32], val: &mut [u32], values: &[i32], m: usize) -> Sparse
-    requires well { Well s ind.old val.old }
-    requires m_in_bounds { m ≤ length values.now }
-    ensures { full result ind.new val.new ≡ drop_each (full s ind.old val.old) (take m values.now) }
+// Drops the values, one after the other.
+fn drop_each(s: Sparse, ind: &mut [u32], val: &mut [u32], values: &[i32]) -> Sparse
+    requires { Well s ind.old val.old }
+    ensures { full result ind.new val.new ≡ drop_each (full s ind.old val.old) values.now }
 {
     let mut cur = s;
-    let mut i = 0;
-    while i < m {
-        cur = sparse_inner::drop_at(cur, ind, val, sparse_inner::place(cur, Value(values[i])));
-        i += 1;
+    for v in values {
+        let o = sparse_inner::place(cur, Value(*v));
+        cur = sparse_inner::drop_at(cur, ind, val, o);
     }
     cur
 }
@@ -83,22 +70,13 @@ fn part(
     ensures { pared result.answer (full result.set ind.new val.new) scratch.new ≡ part_of (full s ind.old val.old) (full t tind.now tval.now) want scratch.old }
 {
     match sparse_inner::check_both(s, ind, val, t, tind, tval) {
-        Verdict::Refused(why) => Narrowed {
-            set: s,
-            answer: Outcome::Refused(why),
-        },
-        Verdict::Fine => {
+        Err(why) => refused(s, why),
+        Ok(()) => {
             if scratch.len() < s.size as usize {
-                return Narrowed {
-                    set: s,
-                    answer: Outcome::Refused(Refusal::NoRoom),
-                };
+                return refused(s, Refusal::NoRoom);
             }
             let m = gather(s, ind, val, t, tind, tval, want, scratch);
-            Narrowed {
-                set: drop_each(s, ind, val, scratch, m),
-                answer: Outcome::Done,
-            }
+            done(drop_each(s, ind, val, &scratch[..m]), ())
         }
     }
 }
@@ -144,13 +122,11 @@ fn add_each(
     requires well_2 { Well t tind.now tval.now }
     ensures { full result ind.new val.new ≡ add_each (full s ind.old val.old) (set_of (full t tind.now tval.now)) }
 {
-    let size = t.size;
     let mut cur = s;
-    let mut k = 0u32;
-    while k < size {
+    for k in 0..t.size {
         let v = sparse_inner::value(t, tval[k as usize]);
-        cur = sparse_inner::add_at(cur, ind, val, sparse_inner::place(cur, v));
-        k += 1;
+        let o = sparse_inner::place(cur, v);
+        cur = sparse_inner::add_at(cur, ind, val, o);
     }
     cur
 }
@@ -166,14 +142,8 @@ pub fn union_with(
     ensures { after result.answer (full result.set ind.new val.new) ≡ union_of (full s ind.old val.old) (full t tind.now tval.now) }
 {
     match sparse_inner::check_both(s, ind, val, t, tind, tval) {
-        Verdict::Refused(why) => Narrowed {
-            set: s,
-            answer: Outcome::Refused(why),
-        },
-        Verdict::Fine => Narrowed {
-            set: add_each(s, ind, val, t, tind, tval),
-            answer: Outcome::Done,
-        },
+        Err(why) => refused(s, why),
+        Ok(()) => done(add_each(s, ind, val, t, tind, tval), ()),
     }
 }
 
@@ -183,14 +153,10 @@ fn all_in(s: Sparse, ind: &[u32], val: &[u32], t: Sparse, tind: &[u32], tval: &[
     requires well_2 { Well t tind.now tval.now }
     ensures { result ≡ every (is_held (full t tind.now tval.now)) (set_of (full s ind.now val.now)) }
 {
-    let size = s.size;
-    let mut k = 0u32;
-    while k < size {
-        let v = sparse_inner::value(s, val[k as usize]);
-        if !has(t, tind, tval, v) {
+    for k in 0..s.size {
+        if !sparse_inner::has(t, tind, sparse_inner::value(s, val[k as usize])) {
             return false;
         }
-        k += 1;
     }
     true
 }
@@ -202,25 +168,23 @@ pub fn is_subset_of(
     t: Sparse,
     tind: &[u32],
     tval: &[u32],
-) -> Told
+) -> Result<bool, Refusal>
     ensures { result ≡ is_subset_of (full s ind.now val.now) (full t tind.now tval.now) }
 {
-    match sparse_inner::check_both(s, ind, val, t, tind, tval) {
-        Verdict::Refused(why) => Told::Refused(why),
-        Verdict::Fine => Told::Is(all_in(s, ind, val, t, tind, tval)),
-    }
+    sparse_inner::check_both(s, ind, val, t, tind, tval)?;
+    Ok(all_in(s, ind, val, t, tind, tval))
 }
 
-pub fn equals(s: Sparse, ind: &[u32], val: &[u32], t: Sparse, tind: &[u32], tval: &[u32]) -> Told
+pub fn equals(
+    s: Sparse,
+    ind: &[u32],
+    val: &[u32],
+    t: Sparse,
+    tind: &[u32],
+    tval: &[u32],
+) -> Result<bool, Refusal>
     ensures { result ≡ equals_of (full s ind.now val.now) (full t tind.now tval.now) }
 {
-    match sparse_inner::check_both(s, ind, val, t, tind, tval) {
-        Verdict::Refused(why) => Told::Refused(why),
-        Verdict::Fine => {
-            if s.size != t.size {
-                return Told::Is(false);
-            }
-            Told::Is(all_in(s, ind, val, t, tind, tval))
-        }
-    }
+    sparse_inner::check_both(s, ind, val, t, tind, tval)?;
+    Ok(s.size == t.size && all_in(s, ind, val, t, tind, tval))
 }

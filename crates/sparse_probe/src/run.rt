@@ -1,124 +1,232 @@
-// A script, record by record.
-ghost use Rattle.std.specs.Prelude.{◌≡◌, ◌+◌, ◌<◌, ◌≤◌, length};
+// A script on two sparse sets.
+ghost use Rattle.std.specs.Prelude.{◌≡◌, ◌<◌, ◌≤◌, length};
 
 use super::cells;
-use probe_parts::lent::least;
+use super::cells::{CELLS, Cells, many};
 use probe_parts::record::Record;
+use probe_parts::regs::{CURSORS, Register, Registers, STATES};
+use probe_parts::script::{Done, alone};
 use probe_parts::turn::{Turn, after};
-use probe_parts::{behind, record, regs as words, reply, wire};
-use sparse_probe_calls::change;
-use sparse_probe_parts::given::{Given, Seen};
-use sparse_probe_parts::{given, lent, raw, regs, seen};
+use probe_parts::wire::{half, pair, put_word};
+use probe_parts::{reply, script};
+use sparse_probe_calls::{change, look};
+use sparse_probe_parts::answer::saved;
+use sparse_probe_parts::call::Call;
+use sparse_probe_parts::{lent, regs, seen};
 
-// The most bytes that a record's answer and the cells behind it take.
-const MOST: usize = 1344;
-
-// So many cells are lent.
-fn many(w: u64) -> usize
-    ensures { result ≤ 4104 }
-{
-    least(wire::half(w) as usize, 4104)
-}
-
-// A lent part: where it begins, and where it ends.
+// Registers, the cells of the two sets, and a list of values.
 #[derive(Clone, Copy)]
-struct Part {
-    start: usize,
-    end: usize,
+struct Run {
+    regs: Registers,
+    sets: [Cells; 2],
+    list: [i32; CELLS],
 }
 
-// The part of a set's cells that begins some cells into them. So many as w says are lent, or as there are.
-fn part_of(a: usize, into: usize, w: u64, cells: usize) -> Part
-    requires { into < 4 }
-    ensures { (result.start ≤ result.end) × (result.end ≤ cells) × (result.end ≤ 8224) }
+// What a record sets beside set a: 0 bits and blank cells, how many cells are lent, a cell, the list, a state, or a cursor.
+fn arrange(call: Call, r: Record, a: usize, run: &mut Run)
+    requires { a < 2 }
 {
-    let start = least(cells::first(a) + into, cells);
-    Part {
-        start,
-        end: start + least(many(w), cells - start),
+    match call {
+        Call::Clear => {
+            run.regs = Registers::new();
+            run.sets[0].blank(r.n);
+            run.sets[1].blank(r.n);
+        }
+        Call::SetLent => {
+            run.regs.put(regs::LENT + a, regs::of_pair(r.lo, 0));
+        }
+        Call::SetInd => {
+            cells::put(r, &mut run.sets[a].ind);
+        }
+        Call::SetVal => {
+            cells::put(r, &mut run.sets[a].val);
+        }
+        Call::SetList => {
+            cells::list_values(r, &mut run.list);
+        }
+        Call::SetState => {
+            run.regs
+                .put(STATES + r.b, regs::of_state(regs::raw_state(r)));
+        }
+        Call::SetCursor => {
+            run.regs.put(CURSORS + r.b, regs::of_pair(r.n as u64, 0));
+        }
+        _ => {}
     }
 }
 
-// A call on one set: its lent parts begin two cells into `ind`, three into `val`.
-fn on_one(r: Record, g: Given, ind: &mut [u32], val: &mut [u32], list: &[i32]) -> Seen
-    requires { r.b < 8 }
-    ensures { result.behind.many ≤ 1280 }
-{
-    let inds = part_of(g.a, 2, g.here, ind.len());
-    let vals = part_of(g.a, 3, g.here >> 32, val.len());
-    let ind_start = inds.start;
-    let ind_end = inds.end;
-    let val_start = vals.start;
-    let val_end = vals.end;
-    change::one(
-        r,
-        g,
-        &mut ind[ind_start..ind_end],
-        &mut val[val_start..val_end],
-        list,
-    )
+// What a call is given of the registers: set a and the other set, how many cells of each are lent, state b and cursor b.
+#[derive(Clone, Copy)]
+struct Given {
+    old: Register,
+    other: Register,
+    here: u64,
+    there: u64,
+    state: Register,
+    cursor: Register,
 }
 
-// A call on two sets, the other's cells in arrays of their own.
-fn on_two(r: Record, g: Given, ind: &mut [u32], val: &mut [u32], tind: &[u32], tval: &[u32]) -> Seen
-    requires { r.b < 8 }
-    ensures { result.behind.many ≤ 1280 }
+fn to_call(r: Record, a: usize, regs: &Registers) -> Given
+    requires { a < 2 }
 {
-    let inds = part_of(g.a, 2, g.here, ind.len());
-    let vals = part_of(g.a, 3, g.here >> 32, val.len());
-    let tinds = part_of(0, 2, g.there, tind.len());
-    let tvals = part_of(0, 3, g.there >> 32, tval.len());
-    let ind_start = inds.start;
-    let ind_end = inds.end;
-    let val_start = vals.start;
-    let val_end = vals.end;
-    let tind_start = tinds.start;
-    let tind_end = tinds.end;
-    let tval_start = tvals.start;
-    let tval_end = tvals.end;
-    change::two(
-        r,
-        g,
-        &mut ind[ind_start..ind_end],
-        &mut val[val_start..val_end],
-        &tind[tind_start..tind_end],
-        &tval[tval_start..tval_end],
-    )
+    Given {
+        old: regs.get(a),
+        other: regs.get(1 - a),
+        here: regs.get(regs::LENT + a).lo,
+        there: regs.get(regs::LENT + 1 - a).lo,
+        state: regs.get(STATES + r.b),
+        cursor: regs.get(CURSORS + r.b),
+    }
 }
 
-// The other set's cells are copied: two parts of one array can't be lent at a time.
-fn paired(r: Record, g: Given, ind: &mut [u32; 8224], val: &mut [u32; 8224]) -> Seen
-    requires { (g.a < 2) × (r.b < 8) }
-    ensures { result.behind.many ≤ 1280 }
-{
-    let tind = cells::copied(ind, 1 - g.a);
-    let tval = cells::copied(val, 1 - g.a);
-    on_two(r, g, ind, val, &tind, &tval)
-}
-
-fn shown(r: Record, g: Given, ind: &[u32; 8224], val: &[u32; 8224]) -> Seen
-    ensures { result.behind.many ≤ 1280 }
-{
-    lent::orderings(r, g, cells::copied(ind, g.a), cells::copied(val, g.a))
-}
-
-// Runs a record on set a, once what it sets beside the registers that it is given is set.
-fn run(
+// A call on set a alone.
+fn on_one(
+    call: Call,
     r: Record,
     g: Given,
-    ind: &mut [u32; 8224],
-    val: &mut [u32; 8224],
-    list: &[i32; 4112],
-) -> Seen
-    requires { (g.a < 2) × (r.b < 8) }
-    ensures { result.behind.many ≤ 1280 }
+    ind: &mut [u32; CELLS],
+    val: &mut [u32; CELLS],
+    list: &[i32; CELLS],
+) -> Turn {
+    let inds = 2 + many(g.here);
+    let vals = 3 + many(g.here >> 32);
+    let end = r.b + r.n.min(4100);
+    change::one(
+        call,
+        r,
+        g.old,
+        &mut ind[2..inds],
+        &mut val[3..vals],
+        &list[r.b..end],
+        regs::state(g.state),
+    )
+}
+
+// What is left of state b, where set a is saved.
+fn save(g: Given, ind: &[u32; CELLS], val: &[u32; CELLS]) -> Turn {
+    let inds = 2 + many(g.here);
+    let vals = 3 + many(g.here >> 32);
+    saved(
+        sparse::save_state(regs::set(g.old), &ind[2..inds], &val[3..vals]),
+        g.state,
+    )
+}
+
+// What is left of cursor b, which walks set a.
+fn walk(call: Call, g: Given, ind: &[u32; CELLS], val: &[u32; CELLS]) -> Turn {
+    let inds = 2 + many(g.here);
+    let vals = 3 + many(g.here >> 32);
+    look::walk(
+        call,
+        regs::set(g.old),
+        &ind[2..inds],
+        &val[3..vals],
+        half(g.cursor.lo),
+    )
+}
+
+// The calls on set a that are lent cells or bytes to write to.
+fn written(
+    call: Call,
+    r: Record,
+    g: Given,
+    ind: &[u32; CELLS],
+    val: &[u32; CELLS],
+    behind: &mut [u8],
+) -> Done
+    requires { 1280 ≤ length behind.old }
+    ensures { (result.behind ≤ 1280) × (length behind.new ≡ length behind.old) }
 {
-    let op = r.op;
-    match op {
-        0 | 1 | 4 | 5 | 6 | 10 | 52 | 62 => raw::run(r, g),
-        63 => shown(r, g, ind, val),
-        40 | 41 | 42 | 43 | 44 => paired(r, g, ind, val),
-        _ => on_one(r, g, ind, val, list),
+    let ind = &ind[2..2 + many(g.here)];
+    let val = &val[3..3 + many(g.here >> 32)];
+    let s = regs::set(g.old);
+    match call {
+        Call::ToVec => lent::cells(r, behind, |cells| {
+            after(g.old, sparse_values::to_vec(s, ind, val, cells).into())
+        }),
+        _ => lent::bytes(r, behind, |bytes| {
+            after(g.old, sparse_text::write_text(s, ind, val, bytes).into())
+        }),
+    }
+}
+
+// A call on set a with the other set, whose cells are `others`.
+fn on_two(
+    call: Call,
+    r: Record,
+    g: Given,
+    ind: &mut [u32; CELLS],
+    val: &mut [u32; CELLS],
+    others: Cells,
+    behind: &mut [u8],
+) -> Done
+    requires { 1280 ≤ length behind.old }
+    ensures { (result.behind ≤ 1280) × (length behind.new ≡ length behind.old) }
+{
+    let inds = 2 + many(g.here);
+    let vals = 3 + many(g.here >> 32);
+    let ind = &mut ind[2..inds];
+    let val = &mut val[3..vals];
+    let tind = &others.ind[2..2 + many(g.there)];
+    let tval = &others.val[3..3 + many(g.there >> 32)];
+    match call {
+        Call::IntersectWith | Call::DiffWith => lent::cells(r, behind, |scratch| {
+            change::parted(call, g.old, ind, val, g.other, tind, tval, scratch)
+        }),
+        _ => alone(change::two(call, g.old, ind, val, g.other, tind, tval)),
+    }
+}
+
+// The first n cells of both orderings of set a.
+fn orderings(r: Record, g: Given, ind: &[u32; CELLS], val: &[u32; CELLS], behind: &mut [u8]) -> Done
+    requires { 1280 ≤ length behind.old }
+    ensures { (result.behind ≤ 1280) × (length behind.new ≡ length behind.old) }
+{
+    let many = r.n.min(160);
+    for k in 0..many {
+        put_word(behind, 8 * k, pair(ind[k], val[k]));
+    }
+    Done {
+        turn: after(g.old, reply::none()),
+        behind: 8 * many,
+    }
+}
+
+// What a record leaves of set a and answers, once what it sets besides is set.
+fn called(call: Call, r: Record, a: usize, run: &mut Run, behind: &mut [u8]) -> Done
+    requires { (a < 2) × (1280 ≤ length behind.old) }
+    ensures { (result.behind ≤ 1280) × (length behind.new ≡ length behind.old) }
+{
+    let g = to_call(r, a, &run.regs);
+    let set = &mut run.sets[a];
+    match call {
+        Call::Clear
+        | Call::SetLent
+        | Call::SetInd
+        | Call::SetVal
+        | Call::SetList
+        | Call::SetState
+        | Call::SetCursor => alone(after(g.old, reply::none())),
+        Call::SetSet => alone(after(regs::of_set(regs::raw_set(r)), reply::none())),
+        Call::SaveState => {
+            let t = save(g, &set.ind, &set.val);
+            run.regs.put(STATES + r.b, t.left);
+            alone(after(g.old, t.reply))
+        }
+        Call::Iter | Call::Next | Call::ComplementIter | Call::ComplementNext => {
+            let t = walk(call, g, &set.ind, &set.val);
+            run.regs.put(CURSORS + r.b, t.left);
+            alone(after(g.old, t.reply))
+        }
+        Call::ToVec | Call::WriteText => written(call, r, g, &set.ind, &set.val, behind),
+        Call::IntersectWith | Call::DiffWith | Call::UnionWith | Call::IsSubsetOf | Call::Equals =>
+            {
+                let others = run.sets[1 - a];
+                let set = &mut run.sets[a];
+                on_two(call, r, g, &mut set.ind, &mut set.val, others, behind)
+            }
+        Call::Orderings => orderings(r, g, &set.ind, &set.val, behind),
+        _ => alone(on_one(call, r, g, &mut set.ind, &mut set.val, &run.list)),
     }
 }
 
@@ -126,103 +234,34 @@ fn run(
 fn seen_cells(w: u64) -> usize
     ensures { result ≤ 4112 }
 {
-    let inds = many(w);
-    let vals = many(w >> 32);
-    if inds < vals {
-        return vals + 8;
-    }
-    inds + 8
+    many(w).max(many(w >> 32)) + 8
 }
 
-// Puts what a record left into the registers. The answer tells of cursor b and of the orderings besides.
-fn finish(
-    r: Record,
-    a: usize,
-    regs: &mut [u64; 256],
-    s: Seen,
-    ind: &[u32; 8224],
-    val: &[u32; 8224],
-) -> Turn
-    requires { (a < 2) × (r.b < 8) }
+// The answer shows set a, and tells of cursor b and of the orderings besides.
+fn finish(r: Record, a: usize, run: &Run, t: Turn) -> Turn
+    requires { a < 2 }
 {
-    let t = s.turn;
-    words::put(regs, a, t.left);
-    words::put(regs, given::place(r), s.beside);
     let mut left = t.left;
-    left.bounds = left.bounds | (words::get(regs, words::CURSORS + r.b).lo << 32);
-    let from = cells::first(a);
-    let end = from + seen_cells(words::get(regs, regs::LENT + a).lo);
     let mut reply = t.reply;
-    reply.hi = seen::orderings(ind, val, from, end);
+    let end = seen_cells(run.regs.get(regs::LENT + a).lo);
+    left.bounds |= run.regs.get(CURSORS + r.b).lo << 32;
+    reply.hi = seen::orderings(&run.sets[a].ind[..end], &run.sets[a].val[..end]);
     after(left, reply)
 }
 
-// What a record sets beside the registers that a call is given: 0 all, 4 how many cells are lent, 5 and 6 a cell, 10 the list.
-fn arrange(
-    r: Record,
-    a: usize,
-    regs: &mut [u64; 256],
-    ind: &mut [u32; 8224],
-    val: &mut [u32; 8224],
-    list: &mut [i32; 4112],
-)
-    requires { a < 2 }
+fn step(r: Record, run: &mut Run, behind: &mut [u8]) -> Done
+    requires { 1280 ≤ length behind.old }
+    ensures { (result.behind ≤ 1280) × (length behind.new ≡ length behind.old) }
 {
-    let op = r.op;
-    match op {
-        0 => {
-            words::clear(regs);
-            cells::blank(ind, r.n);
-            cells::blank(val, r.n);
-        }
-        4 => {
-            words::put(regs, regs::LENT + a, regs::of_pair(r.lo, 0));
-        }
-        5 => {
-            cells::put_cell(r, a, ind);
-        }
-        6 => {
-            cells::put_cell(r, a, val);
-        }
-        10 => {
-            cells::list_values(r, list);
-        }
-        _ => {}
-    }
-}
-
-// Runs a record on set 0 or set 1.
-fn step(
-    r: Record,
-    regs: &mut [u64; 256],
-    ind: &mut [u32; 8224],
-    val: &mut [u32; 8224],
-    list: &mut [i32; 4112],
-) -> Seen
-    requires { r.b < 8 }
-    ensures { result.behind.many ≤ 1280 }
-{
+    let call = Call::from(r.op);
     let a = r.a % 2;
-    arrange(r, a, regs, ind, val, list);
-    let g = given::to(r, a, regs);
-    let mut s = run(r, g, ind, val, list);
-    let t = finish(r, a, regs, s, ind, val);
-    s.turn = t;
-    s
-}
-
-// Writes the answer at `to` and what stands behind it, and answers where the next answer goes.
-fn write(op: u64, s: Seen, out: &mut [u8], to: usize) -> usize
-    requires { (s.behind.many ≤ 1280) × (to + 1344 ≤ length out.old) }
-    ensures { (result ≤ length out.new) × (length out.new ≡ length out.old) }
-{
-    let t = s.turn;
-    let cells = s.behind;
-    let behind = to + 64;
-    let next = behind + cells.many;
-    reply::write(op, t.reply, t.left, out, to);
-    behind::write(cells, out, behind);
-    next
+    arrange(call, r, a, run);
+    let done = called(call, r, a, run, behind);
+    run.regs.put(a, done.turn.left);
+    Done {
+        turn: finish(r, a, run, done.turn),
+        behind: done.behind,
+    }
 }
 
 // Runs the script on registers that begin at 0, as far as `out` has room for what any record may answer, and answers how many
@@ -230,20 +269,18 @@ fn write(op: u64, s: Seen, out: &mut [u8], to: usize) -> usize
 pub fn probe_sparse(script: &[u8], out: &mut [u8]) -> usize
     ensures { result ≤ length out.new }
 {
-    let mut regs = [0u64; 256];
-    let mut ind = cells::all_blank();
-    let mut val = cells::all_blank();
-    let mut list = [0i32; 4112];
-    let mut at = 0;
-    let mut to = 0;
-    while record::SIZE <= script.len() - at {
-        if out.len() - to < MOST {
-            return to;
-        }
-        let r = record::read(script, at);
-        at += record::SIZE;
-        let s = step(r, &mut regs, &mut ind, &mut val, &mut list);
-        to = write(r.op, s, out, to);
-    }
-    to
+    let mut run = Run {
+        regs: Registers::new(),
+        sets: [Cells::new(); 2],
+        list: [0; CELLS],
+    };
+    script::run(
+        script,
+        out,
+        lent::MOST,
+        |r, behind|
+            requires { 1280 ≤ length behind.now }
+            ensures { result.behind ≤ 1280 }
+        { step(r, &mut run, behind) },
+    )
 }

@@ -1,79 +1,78 @@
-// All calls, by their numbers in a script: those on one set, and those on two.
-ghost use Rattle.std.specs.Prelude.{◌<◌, ◌≤◌};
-
-use super::{calls, look};
-use probe_parts::lent::least;
+// The calls that make or change a set.
 use probe_parts::record::Record;
 use probe_parts::regs::Register;
 use probe_parts::turn::{Turn, after};
 use rules::Value;
-use sparse_inner::Sparse;
-use sparse_probe_parts::given::{Given, Seen};
-use sparse_probe_parts::{answer, given, lent, regs};
+use sparse_inner::SparseState;
+use sparse_probe_parts::answer::{handed, made};
+use sparse_probe_parts::call::Call;
+use sparse_probe_parts::regs;
 
-// The listed values from place b up to place b + n are those that 8 is given.
-fn make(r: Record, old: Register, ind: &mut [u32], val: &mut [u32], list: &[i32]) -> Turn {
-    let start = least(r.b, list.len());
-    let end = start + least(least(r.n, 4100), list.len() - start);
-    answer::made(
-        calls::made(r.op, ind, val, Value(r.v), Value(r.w), &list[start..end]),
-        old,
-    )
-}
-
-fn change(op: u64, s: Sparse, ind: &mut [u32], val: &mut [u32], v: Value) -> Turn {
-    match op {
-        33 => answer::changed(sparse::remove(s, ind, val, v)),
-        35 => answer::narrowed(sparse::remove_all_but(s, ind, val, v)),
-        36 => answer::narrowed(sparse::remove_below(s, ind, val, v)),
-        _ => answer::narrowed(sparse::remove_above(s, ind, val, v)),
-    }
-}
-
-// The calls on one set. 2, 3 and 8 make it, 33 to 37 but 34 may write cells of it, 60 and 61 are lent others.
-pub fn one(r: Record, g: Given, ind: &mut [u32], val: &mut [u32], list: &[i32]) -> Seen
-    requires { r.b < 8 }
-    ensures { result.behind.many ≤ 1280 }
-{
-    let op = r.op;
-    match op {
-        2 | 3 | 8 => given::alone(make(r, g.old, ind, val, list), g.beside),
-        33 | 35 | 36 | 37 => given::alone(
-            change(op, regs::set(g.old), ind, val, Value(r.v)),
-            g.beside,
-        ),
-        60 | 61 => lent::write(r, g, ind, val),
-        _ => look::run(r, g, ind, val),
-    }
-}
-
-// The calls on two sets, of which the second is lent to be read. 40, 41 and 44 may write cells of the first, the others ask.
-pub fn two(
+// `values` are those that a set is made of, `state` is the one that is restored.
+pub fn one(
+    call: Call,
     r: Record,
-    g: Given,
+    old: Register,
     ind: &mut [u32],
     val: &mut [u32],
+    values: &[i32],
+    state: SparseState,
+) -> Turn {
+    let s = regs::set(old);
+    let v = Value(r.v);
+    match call {
+        Call::New => made(sparse_make::new(v, Value(r.w), ind, val), old),
+        Call::NewUnchecked => made(sparse_make::new_unchecked(v, Value(r.w), ind, val), old),
+        Call::NewFromValues => made(sparse_make::new_from_values(values, ind, val), old),
+        Call::Remove => handed(sparse::remove(s, ind, val, v)),
+        Call::RemoveAll => handed(sparse::remove_all(s, ind, val)),
+        Call::RemoveAllBut => handed(sparse::remove_all_but(s, ind, val, v)),
+        Call::RemoveBelow => handed(sparse::remove_below(s, ind, val, v)),
+        Call::RemoveAbove => handed(sparse::remove_above(s, ind, val, v)),
+        Call::RestoreState => handed(sparse::restore_state(s, ind, val, state)),
+        _ => after(old, super::look::ask(call, s, ind, val, v)),
+    }
+}
+
+// A call on two sets, of which the second is lent to be read.
+pub fn two(
+    call: Call,
+    old: Register,
+    ind: &mut [u32],
+    val: &mut [u32],
+    other: Register,
     tind: &[u32],
     tval: &[u32],
-) -> Seen
-    requires { r.b < 8 }
-    ensures { result.behind.many ≤ 1280 }
-{
-    let s = regs::set(g.old);
-    let t = regs::set(g.other);
-    let op = r.op;
-    match op {
-        40 | 44 => lent::part(r, g, ind, val, tind, tval),
-        41 => given::alone(
-            answer::narrowed(sparse_pairs::union_with(s, ind, val, t, tind, tval)),
-            g.beside,
+) -> Turn {
+    let s = regs::set(old);
+    let t = regs::set(other);
+    match call {
+        Call::UnionWith => handed(sparse_pairs::union_with(s, ind, val, t, tind, tval)),
+        Call::IsSubsetOf => after(
+            old,
+            sparse_pairs::is_subset_of(s, ind, val, t, tind, tval).into(),
         ),
-        _ => given::alone(
-            after(
-                regs::of_set(s),
-                answer::told(calls::compared(op, s, ind, val, t, tind, tval)),
-            ),
-            g.beside,
-        ),
+        _ => after(old, sparse_pairs::equals(s, ind, val, t, tind, tval).into()),
+    }
+}
+
+// The same for the calls that are lent scratch too.
+pub fn parted(
+    call: Call,
+    old: Register,
+    ind: &mut [u32],
+    val: &mut [u32],
+    other: Register,
+    tind: &[u32],
+    tval: &[u32],
+    scratch: &mut [i32],
+) -> Turn {
+    let s = regs::set(old);
+    let t = regs::set(other);
+    match call {
+        Call::IntersectWith => {
+            handed(sparse_pairs::intersect_with(s, ind, val, t, tind, tval, scratch))
+        }
+        _ => handed(sparse_pairs::diff_with(s, ind, val, t, tind, tval, scratch)),
     }
 }

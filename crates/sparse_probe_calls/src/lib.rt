@@ -1,6 +1,5 @@
 // The public calls of the sparse set, by their numbers in a script of calls (differential/FORMAT.md).
 #![tactic(auto)]
 
-pub mod calls;
 pub mod change;
 pub mod look;

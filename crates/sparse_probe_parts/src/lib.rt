@@ -1,10 +1,9 @@
-// What a script of calls on sparse sets is made of (differential/FORMAT.md): sets as registers, what a record is given of these and leaves of
-// them, answers, what is seen of lent cells, the calls that are lent some, and the records that are no call.
+// What a script of calls on sparse sets is made of (differential/FORMAT.md), beside what `probe_parts` has: the calls by their numbers, sets as
+// registers, what a call left and answered, lent cells, and what is seen of these.
 #![tactic(auto)]
 
 pub mod answer;
-pub mod given;
+pub mod call;
 pub mod lent;
-pub mod raw;
 pub mod regs;
 pub mod seen;

@@ -3,7 +3,7 @@ use Rattle.std.specs.Prelude.{◌≡◌, Bool, true, false, cond, List, [], ◌�
 use Rattle.std.specs.Int.{w32}
 use Rattle.std.proofs.Common.{sym, ap, ◌∙◌, ⊎_elim, eq-or-lt_of_le, add-one, arith, length-append, eq-eqb, ne_eqb, SFits}
 use Rattle.decimal.specs.Decimal.{decimal}
-use Rattle.decimal.specs.Put.{put_of}
+use Rattle.decimal.specs.Put.{Put, put_of}
 use Rattle.decimal.proofs.Digits.{decimal-few}
 use Rattle.decimal.proofs.Puts.{put-append, put-more, put-end}
 use Rattle.sparse_inner.specs.Set.{Full}
@@ -55,6 +55,10 @@ pub closing-rest : (size n : ℕ) → (n ≡ size → ⊥) → 93 ∷ [] ≡ clo
 unfolding closing
 closing-rest size n f = rw (ne_eqb n size f)
 
+-- a cell more is still within the text
+pub text-ahead : (f : Full) (k : ℕ) → k < f.set.n → 1 + length (listed f k) + (length (before f.set.size k) + length (decimal (in_cell f k))) ≤ length (text_of f)
+text-ahead f k h = omega (arith, listed-size f k, listed-within f (k + 1) f.set.n (omega arith), text-size f)
+
 -- ---- what is put: a bracket, the values, what closes them
 pub put-none : (f : Full) (l : List ℕ) → record { next = 1; cells = l } ≡ put_of (listed f 0) l 1
 unfolding listed
@@ -69,3 +73,7 @@ put_next f k l out at e p q =
 pub put-close : (f : Full) (l out : List ℕ) (at : ℕ) → record { next = at; cells = out } ≡ put_of (listed f f.set.n) (set l 0 91) 1 → put_of (closing f.set.size f.set.n) out at ≡ put_of (text_of f) l 0
 unfolding text_of
 put-close f l out at e = put-more (91 ∷ listed f f.set.n) (closing f.set.size f.set.n) l 0 (e ∙ sym (put-append (91 ∷ []) (listed f f.set.n) l 0))
+
+-- what closes the text ends it
+pub close-ends : (f : Full) (l out : List ℕ) (at : ℕ) → record { next = at; cells = out } ≡ put_of (listed f f.set.n) l 1 → at + length (closing f.set.size f.set.n) ≡ length (text_of f)
+close-ends f l out at e = omega (arith, ap (λ (p : Put). p.next) e, text-size f)

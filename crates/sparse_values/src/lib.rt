@@ -5,15 +5,14 @@
 //
 // A cursor is a place in the set that is lent with it: it goes in by value and is handed back beside what it yielded. No cursor is refused, and
 // one that has ended yields no more. A set that isn't well formed is refused by number, before anything else; a refused call writes no cell.
-#![tactic(auto)]
+#![tactic(auto, unfolding(crate::specs::Calls::next_of, crate::specs::Calls::complement_next_of, crate::specs::Calls::to_vec_of))]
 
-ghost use Rattle.std.specs.Prelude.{◌≡◌, ◌≤◌, length};
+ghost use Rattle.std.specs.Prelude.{◌≡◌, ◌≤◌, ◌<◌, length, IfOk, MatchOption};
 ghost use Rattle.sparse_inner.specs.Set.{full, Well, set_of, over};
-ghost use Rattle.sparse_values.specs.Calls.{start, next_of, past_held, complement_start, complement_next_of, written, to_vec_of};
+ghost use Rattle.sparse_values.specs.Calls.{before_of, start, next_of, past_held, complement_start, complement_next_of, written, to_vec_of};
 
 use rules::{Refusal, Value};
-use sparse::Counted;
-use sparse_inner::{Sparse, Verdict};
+use sparse_inner::{Sparse, granted};
 
 // The cell of the next held value.
 #[derive(Clone, Copy)]
@@ -27,26 +26,11 @@ pub struct ComplementCursor {
     pub at: u32,
 }
 
-// The next value, or that there is none.
-#[derive(Clone, Copy)]
-pub enum Yielded {
-    Next(Value),
-    End,
-    Refused(Refusal),
-}
-
 // A cursor handed back, and what it yielded.
 #[derive(Clone, Copy)]
-pub struct Stepped {
-    pub cursor: HeldCursor,
-    pub answer: Yielded,
-}
-
-// The same of the values that are not held.
-#[derive(Clone, Copy)]
-pub struct ComplementStepped {
-    pub cursor: ComplementCursor,
-    pub answer: Yielded,
+pub struct Stepped<C> {
+    pub cursor: C,
+    pub answer: Result<Option<Value>, Refusal>,
 }
 
 pub fn iter() -> HeldCursor
@@ -61,39 +45,36 @@ pub fn complement_iter() -> ComplementCursor
     ComplementCursor { at: 0 }
 }
 
-pub fn next(s: Sparse, ind: &[u32], val: &[u32], c: HeldCursor) -> Stepped
+// The value in a cell that stands before `end`.
+fn before(s: Sparse, ind: &[u32], val: &[u32], at: u32, end: u32) -> Result<Option<Value>, Refusal>
+    requires { Well s ind.now val.now → end ≤ s.n }
+    ensures value { result ≡ before_of (full s ind.now val.now) at end }
+    ensures below { IfOk result (λ v. MatchOption v (end ≤ at) (λ _. at < 4096)) }
+{
+    sparse_inner::check(s, ind, val)?;
+    if at < end {
+        Ok(Some(sparse_inner::value(s, val[at as usize])))
+    } else {
+        Ok(None)
+    }
+}
+
+pub fn next(s: Sparse, ind: &[u32], val: &[u32], c: HeldCursor) -> Stepped<HeldCursor>
     ensures { result ≡ next_of (full s ind.now val.now) c }
 {
-    match sparse_inner::check(s, ind, val) {
-        Verdict::Refused(why) => Stepped {
-            cursor: c,
-            answer: Yielded::Refused(why),
-        },
-        Verdict::Fine => {
-            let at = c.at;
-            if at >= s.size {
-                return Stepped {
-                    cursor: c,
-                    answer: Yielded::End,
-                };
-            }
-            let v = sparse_inner::value(s, val[at as usize]);
-            Stepped {
-                cursor: HeldCursor { at: at + 1 },
-                answer: Yielded::Next(v),
-            }
-        }
-    }
+    let answer = before(s, ind, val, c.at, s.size);
+    let cursor = match answer {
+        Ok(Some(_)) => HeldCursor { at: c.at + 1 },
+        _ => c,
+    };
+    Stepped { cursor, answer }
 }
 
 // The first cell from `at` on that is not held.
 fn past_held(size: u32, at: u32) -> u32
     ensures { result ≡ past_held size at }
 {
-    if at < size {
-        return size;
-    }
-    at
+    if at < size { size } else { at }
 }
 
 pub fn complement_next(
@@ -101,29 +82,16 @@ pub fn complement_next(
     ind: &[u32],
     val: &[u32],
     c: ComplementCursor,
-) -> ComplementStepped
+) -> Stepped<ComplementCursor>
     ensures { result ≡ complement_next_of (full s ind.now val.now) c }
 {
-    match sparse_inner::check(s, ind, val) {
-        Verdict::Refused(why) => ComplementStepped {
-            cursor: c,
-            answer: Yielded::Refused(why),
-        },
-        Verdict::Fine => {
-            let at = past_held(s.size, c.at);
-            if at >= s.n {
-                return ComplementStepped {
-                    cursor: c,
-                    answer: Yielded::End,
-                };
-            }
-            let v = sparse_inner::value(s, val[at as usize]);
-            ComplementStepped {
-                cursor: ComplementCursor { at: at + 1 },
-                answer: Yielded::Next(v),
-            }
-        }
-    }
+    let at = past_held(s.size, c.at);
+    let answer = before(s, ind, val, at, s.n);
+    let cursor = match answer {
+        Ok(Some(_)) => ComplementCursor { at: at + 1 },
+        _ => c,
+    };
+    Stepped { cursor, answer }
 }
 
 // Writes the held values into the first cells.
@@ -132,28 +100,17 @@ fn write(s: Sparse, ind: &[u32], val: &[u32], cells: &mut [i32])
     requires size_in_bounds { s.size ≤ length cells.old }
     ensures { cells.new ≡ over (set_of (full s ind.now val.now)) cells.old }
 {
-    let size = s.size as usize;
-    let mut k: usize = 0;
-    while k < size {
-        let v = sparse_inner::value(s, val[k]);
-        let x = v.0;
-        cells[k] = x;
-        k += 1;
+    for k in 0..s.size as usize {
+        cells[k] = sparse_inner::value(s, val[k]).0;
     }
 }
 
-pub fn to_vec(s: Sparse, ind: &[u32], val: &[u32], cells: &mut [i32]) -> Counted
+pub fn to_vec(s: Sparse, ind: &[u32], val: &[u32], cells: &mut [i32]) -> Result<usize, Refusal>
     ensures { written result cells.new ≡ to_vec_of (full s ind.now val.now) cells.old }
 {
-    match sparse_inner::check(s, ind, val) {
-        Verdict::Refused(why) => Counted::Refused(why),
-        Verdict::Fine => {
-            let size = s.size as usize;
-            if cells.len() < size {
-                return Counted::Refused(Refusal::NoRoom);
-            }
-            write(s, ind, val, cells);
-            Counted::Count(size)
-        }
-    }
+    sparse_inner::check(s, ind, val)?;
+    let size = s.size as usize;
+    granted(size <= cells.len(), Refusal::NoRoom)?;
+    write(s, ind, val, cells);
+    Ok(size)
 }

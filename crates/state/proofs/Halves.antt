@@ -1,7 +1,7 @@
 -- A chute in half a word: every i32 has a place there, every half is the place of an i32, and a word of two halves comes apart again. Assumes nothing.
 use Rattle.std.specs.Prelude.{◌≡◌, refl, Bool, true, false, ◌&&◌, ℕ, zero, suc, ◌+◌, ◌*◌, ◌^◌, ◌/◌, ◌%◌, ◌<◌, eqb, ltb, ℤ, pos, negsuc, ◌-ℤ◌}
 use Rattle.std.specs.Int.Signed.{le_z}
-use Rattle.std.specs.Int.{w32}
+use Rattle.std.specs.Int.{w32, from_bool}
 use Rattle.std.proofs.Common.{sym, ap, ◌∙◌, arith, SFits, to_z, of_z, le-leb, ltb-true}
 use Rattle.offset.specs.Places.{place_of, span_of}
 use Rattle.offset.specs.Wide.{read32}
@@ -77,6 +77,10 @@ high_read w r l e = ap (λ (z : ℤ). to_z w32 (of_z w32 z)) e ∙ read32 (chute
 pub flag-back : (y : Bool) → eqb (flag_of y) 1 ≡ y
 flag-back true = refl
 flag-back false = refl
+
+pub flag-from : (y : Bool) → from_bool y ≡ flag_of y
+flag-from true = refl
+flag-from false = refl
 
 pub flag_small : (y : Bool) → flag_of y < 2
 flag_small true = omega arith

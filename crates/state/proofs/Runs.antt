@@ -1,11 +1,11 @@
 -- Runs of words: the words of rows by place, and what a run of stores leaves. Assumes nothing.
 use Rattle.std.specs.Prelude.{◌≡◌, refl, List, [], ◌∷◌, ◌++◌, ℕ, zero, suc, ◌+◌, ◌*◌, ◌≤◌, ◌<◌, length, get_or, drop, set}
-use Rattle.std.proofs.Common.{sym, ap, ◌∙◌, not-suc-le-zero, le_of_suc-le-suc, add-one, arith, drop-cons}
+use Rattle.std.proofs.Common.{sym, ap, ◌∙◌, not-suc-le-zero, le_of_suc-le-suc, arith, drop-cons}
 use Rattle.std.proofs.lemmas.List.Edits.{sets}
 use lib.Seq.{get_or-drop}
 use Rattle.board.specs.Rows.{row0, row_at}
 use Rattle.board.specs.declared.Row.{Row}
-use Rattle.state.specs.Layout.{start, row_words, rows_words}
+use Rattle.state.specs.Layout.{row_words, rows_words}
 
 -- ---- the words of rows
 
@@ -41,17 +41,3 @@ four-sets l s a b c d =
     let f : s + 2 ≡ suc (suc s) = omega arith in
     let g : s + 3 ≡ suc (suc (suc s)) = omega arith in
     λ t. set (set (set (set l s a) (e t) b) (f t) c) (g t) d
-
--- a row more
-pub rows_more : (rs : List Row) (l : List ℕ) (i : ℕ) → i < length rs → sets (sets l (start i) (row_words (row_at rs i))) (start (i + 1)) (rows_words (drop (i + 1) rs)) ≡ sets l (start i) (rows_words (drop i rs))
-rows_more rs l i h =
-    let e : start (i + 1) ≡ suc (suc (suc (suc (start i)))) = omega arith in
-    (λ t. sets (sets l (start i) (row_words (row_at rs i))) (e t) (rows_words (drop (add-one i t) rs)))
-    ∙ ap (λ (r : List Row). sets l (start i) (rows_words r)) (sym (drop-cons rs i row0 h))
-
--- a word more
-pub word_more : (ws l : List ℕ) (at k : ℕ) → k < length ws → sets (set l (at + k) (get_or ws k 0)) (at + (k + 1)) (drop (k + 1) ws) ≡ sets l (at + k) (drop k ws)
-word_more ws l at k h =
-    let e : at + (k + 1) ≡ suc (at + k) = omega arith in
-    (λ t. sets (set l (at + k) (get_or ws k 0)) (e t) (drop (add-one k t) ws))
-    ∙ ap (sets l (at + k)) (sym (drop-cons ws k 0 h))

@@ -61,28 +61,12 @@ pub fn high_chute(ends: u64) -> i32
     chute((ends / HALF) as u32)
 }
 
-fn flag(y: bool) -> u64
-    ensures { result ≡ flag_of y }
-{
-    if y { 1 } else { 0 }
-}
-
 // Whether every field is in its range: the flag is 0 or 1, and ids are below 2 ^ 32.
 pub fn is_fitting(ws: &[u64]) -> bool
     requires { size ≤ length ws.now }
     ensures { result ≡ fits_of ws.now }
 {
-    if 2 <= ws[2] {
-        return false;
-    }
-    let mut i = 0;
-    while i < 64 {
-        if HALF <= ws[ROWS + 4 * i] {
-            return false;
-        }
-        i += 1;
-    }
-    true
+    ws[2] < 2 && (0..64).all(|i| ws[ROWS + 4 * i] < HALF)
 }
 
 fn row_at(ws: &[u64], i: usize) -> Row
@@ -125,12 +109,9 @@ fn rows_of(ws: &[u64]) -> [Row; 64]
     requires { (size ≤ length ws.now) × (fits_of ws.now ≡ true) }
     ensures { result ≡ rows_in ws.now 0 64 }
 {
-    let first = row_at(ws, 0);
-    let mut rows = [first; 64];
-    let mut i = 1;
-    while i < 64 {
+    let mut rows = [row_at(ws, 0); 64];
+    for i in 1..64 {
         rows[i] = row_at(ws, i);
-        i += 1;
     }
     rows
 }
@@ -139,12 +120,8 @@ fn saved_of(ws: &[u64]) -> Saved
     requires { size ≤ length ws.now }
     ensures { result ≡ take 1024 (drop 259 ws.now) }
 {
-    let mut saved = [0u64; 1024];
-    let mut k = 0;
-    while k < 1024 {
-        saved[k] = ws[SAVED + k];
-        k += 1;
-    }
+    let mut saved = [0; 1024];
+    saved.copy_from_slice(&ws[SAVED..WORDS]);
     saved
 }
 
@@ -160,15 +137,12 @@ fn put_row(ws: &mut [u64], i: usize, row: Row)
     ws[at + 3] = d.mask.hi;
 }
 
-fn put_rows(rows: [Row; 64], ws: &mut [u64])
+fn put_rows(rows: &[Row; 64], ws: &mut [u64])
     requires { size ≤ length ws.old }
-    ensures { ws.new ≡ sets ws.old 3 (rows_words rows) }
+    ensures { ws.new ≡ sets ws.old 3 (rows_words rows.now) }
 {
-    let mut i = 0;
-    while i < 64 {
-        let row = rows[i];
-        put_row(ws, i, row);
-        i += 1;
+    for (i, row) in rows.iter().enumerate() {
+        put_row(ws, i, *row);
     }
 }
 
@@ -176,11 +150,7 @@ fn put_saved(saved: &Saved, ws: &mut [u64])
     requires { (length saved.now ≡ 1024) × (size ≤ length ws.old) }
     ensures { ws.new ≡ sets ws.old 259 saved.now }
 {
-    let mut k = 0;
-    while k < 1024 {
-        ws[SAVED + k] = saved[k];
-        k += 1;
-    }
+    ws[SAVED..WORDS].copy_from_slice(saved);
 }
 
 // Words past the board's stay as they are.
@@ -188,11 +158,9 @@ pub fn write(b: Board, ws: &mut [u64])
     requires { size ≤ length ws.old }
     ensures { ws.new ≡ written_of b ++ drop size ws.old }
 {
-    let rows = b.rows;
-    let saved = b.saved;
     ws[0] = b.count as u64;
     ws[1] = b.marks as u64;
-    ws[2] = flag(b.changed);
-    put_rows(rows, ws);
-    put_saved(&saved, ws);
+    ws[2] = u64::from(b.changed);
+    put_rows(&b.rows, ws);
+    put_saved(&b.saved, ws);
 }

@@ -12,7 +12,7 @@ use Rattle.masks.proofs.Laws.{room-put, at-put, at_other}
 use Rattle.sweep.specs.Listed.{Struck}
 use Rattle.rules.proofs.SetLaws.{lost-same}
 
-module _ (u : Chutes) (lo : ℤ) (q : ℕ) (before : List ℕ) (room : Room before) where
+module _ (u : Chutes) (lo : ℤ) (q : ℕ) (before : List Mask) (room : Room before) where
   -- nothing to strike
   pub kept : strike u (values_of lo (mask_at before q)) ≡ values_of lo (mask_at before q) → Struck u lo q before before (record { changed = false; consistent = true })
   kept e =
@@ -25,13 +25,13 @@ module _ (u : Chutes) (lo : ℤ) (q : ℕ) (before : List ℕ) (room : Room befo
     there : mask_at (put_at before q e) q ≡ e
     there = at-put before q e room h
 
-    pub stored : (after : List ℕ) (b : Bool) → after ≡ put_at before q e → b ≡ eqb (val e) 0 → Struck u lo q before after (record { changed = true; consistent = not b })
+    pub stored : (after : List Mask) (b : Bool) → after ≡ put_at before q e → b ≡ eqb (val e) 0 → Struck u lo q before after (record { changed = true; consistent = not b })
     stored after b t r =
         let d = values_of lo (mask_at before q) in
-        let at : values_of lo (mask_at after q) ≡ values_of lo e = ap (λ (w : List ℕ). values_of lo (mask_at w q)) t ∙ ap (values_of lo) there in
+        let at : values_of lo (mask_at after q) ≡ values_of lo e = ap (λ (w : List Mask). values_of lo (mask_at w q)) t ∙ ap (values_of lo) there in
         record {
           room = subst Room (sym t) (room-put before q e room);
-          others = λ p k. ap (λ (w : List ℕ). mask_at w p) t ∙ at_other before q p e k;
+          others = λ p k. ap (λ (w : List Mask). mask_at w p) t ∙ at_other before q p e k;
           left = at ∙ s;
           changed = sym (ap (λ (x : Chutes). lost x d) at ∙ l);
           consistent = ap not (r ∙ sym (none-test lo e)) ∙ ap (λ (y : Bool). not (y && not (some (values_of lo e)))) (sym l) ∙ ap (λ (x : Chutes). not (lost x d && not (some x))) (sym at);

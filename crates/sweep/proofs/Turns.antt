@@ -2,6 +2,7 @@
 use Rattle.std.specs.Prelude.{◌≡◌, refl, Bool, true, false, not, ◌&&◌, ◌||◌, cond, List, [], ◌∷◌, ℕ, zero, suc, ◌/◌, ◌^◌, ◌≤◌, ◌<◌, length, get_or, set, take, drop, T, eqb, ℤ, pos, ◌+ℤ◌}
 use Rattle.std.specs.Int.Count.{ones}
 use Rattle.std.proofs.Common.{sym, ap, ap₂, ◌∙◌, subst, true≢false, append-nil, div-one, pow-suc, le_of_suc-le-suc, not-suc-le-zero, arith, length-set, drop_of_length-le, take_all, ltb-false}
+use Rattle.std.proofs.lemmas.Bool.{and_parts}
 use Rattle.std.proofs.Math.Decide.{ℕ_discrete}
 use native.Mathlib.Nat.{div-div-eq-div-mul}
 use lib.Seq.{get_or-set_same, get_or-set_other, ext_get_or}
@@ -18,8 +19,8 @@ use Rattle.rules.proofs.Loops.{none, only, ahead, sweep-inside, sweep-outside, s
 use Rattle.domain.specs.Set.{values_of}
 use Rattle.domain.proofs.Laws.{in-values, values-in}
 use Rattle.masks.specs.Cells.{Room, mask_at}
-use Rattle.sweep.specs.Listed.{tabulate, domain_at, listed, assigned, Left, Struck}
-use Rattle.sweep.specs.declared.Outcome.{Outcome}
+use Rattle.sweep.specs.Listed.{tabulate, domain_at, listed, swept, assigned, Left, Struck}
+use Rattle.rules.specs.declared.Pair.{Pair}
 use Rattle.sweep.proofs.Values.{full}
 
 -- ---- the list of the domains
@@ -33,31 +34,31 @@ at-tabulate f zero p d h = absurd (not-suc-le-zero h)
 at-tabulate f (suc n) zero d h = refl
 at-tabulate f (suc n) (suc p) d h = at-tabulate (λ k. f (suc k)) n p d (le_of_suc-le-suc h)
 
-pub listed-length : (mins : List ℤ) (ws : List ℕ) (n : ℕ) → length (listed mins ws n) ≡ n
+pub listed-length : (mins : List ℤ) (ws : List Mask) (n : ℕ) → length (listed mins ws n) ≡ n
 unfolding listed
 listed-length mins ws n = length-tabulate (domain_at mins ws) n
 
-pub listed_at : (mins : List ℤ) (ws : List ℕ) (n p : ℕ) → p < n → get_or (listed mins ws n) p [] ≡ domain_at mins ws p
+pub listed_at : (mins : List ℤ) (ws : List Mask) (n p : ℕ) → p < n → get_or (listed mins ws n) p [] ≡ domain_at mins ws p
 unfolding listed
 listed_at mins ws n p h = at-tabulate (domain_at mins ws) n p [] h
 
 -- the places that are assigned
-pub assigned-length : (ws : List ℕ) (n : ℕ) → length (assigned ws n) ≡ n
+pub assigned-length : (ws : List Mask) (n : ℕ) → length (assigned ws n) ≡ n
 unfolding assigned
 assigned-length ws n = length-tabulate (λ p. eqb (ones (val (mask_at ws p))) 1) n
 
-pub assigned-at : (ws : List ℕ) (n p : ℕ) → p < n → get_or (assigned ws n) p false ≡ eqb (ones (val (mask_at ws p))) 1
+pub assigned-at : (ws : List Mask) (n p : ℕ) → p < n → get_or (assigned ws n) p false ≡ eqb (ones (val (mask_at ws p))) 1
 unfolding assigned
 assigned-at ws n p h = at-tabulate (λ q. eqb (ones (val (mask_at ws q))) 1) n p false h
 
 -- the list of some domains, where each is what the mask at its place stands for
-pub listed-is : (mins : List ℤ) (ws : List ℕ) (n : ℕ) (ds : List Chutes) → length ds ≡ n → ((p : ℕ) → p < n → domain_at mins ws p ≡ get_or ds p []) → listed mins ws n ≡ ds
+pub listed-is : (mins : List ℤ) (ws : List Mask) (n : ℕ) (ds : List Chutes) → length ds ≡ n → ((p : ℕ) → p < n → domain_at mins ws p ≡ get_or ds p []) → listed mins ws n ≡ ds
 listed-is mins ws n ds e h =
     ext_get_or [] (listed mins ws n) ds (listed-length mins ws n ∙ sym e)
     (λ p l. let i : p < n = subst (λ (x : ℕ). p < x) (listed-length mins ws n) l in listed_at mins ws n p i ∙ h p i)
 
 -- a change at one place
-pub listed-set : (mins : List ℤ) (before after : List ℕ) (n q : ℕ) → q < n → ((p : ℕ) → (p ≡ q → ⊥) → mask_at after p ≡ mask_at before p) → listed mins after n ≡ set (listed mins before n) q (domain_at mins after q)
+pub listed-set : (mins : List ℤ) (before after : List Mask) (n q : ℕ) → q < n → ((p : ℕ) → (p ≡ q → ⊥) → mask_at after p ≡ mask_at before p) → listed mins after n ≡ set (listed mins before n) q (domain_at mins after q)
 listed-set mins before after n q h others = ext_get_or [] (listed mins after n) (set l q e) lengths at
   where
     l : List Chutes
@@ -85,7 +86,7 @@ listed-set mins before after n q h others = ext_get_or [] (listed mins after n) 
 abbrev pub So : Places → Chutes → List Chutes → Bool → ℕ → Swept → Type 0
 So m u ds c q all = all ≡ ahead (take q ds) c (sweep (drop q m) u (drop q ds))
 
-module _ (m : Places) (u : Chutes) (all : Swept) (mins : List ℤ) (n q : ℕ) (c : Bool) (places : length m ≡ n) (h : q < n) (before : List ℕ) (so : So m u (listed mins before n) c q all) where
+module _ (m : Places) (u : Chutes) (all : Swept) (mins : List ℤ) (n q : ℕ) (c : Bool) (places : length m ≡ n) (h : q < n) (before : List Mask) (so : So m u (listed mins before n) c q all) where
   in_m : q < length m
   in_m = omega arith
 
@@ -96,7 +97,7 @@ module _ (m : Places) (u : Chutes) (all : Swept) (mins : List ℤ) (n q : ℕ) (
   pub over : get_or m q false ≡ true → So m u (listed mins before n) c (suc q) all
   over e = so ∙ sweep-inside m u (listed mins before n) q c in_m in_d e
 
-  module _ (after : List ℕ) (o : Outcome) (s : Struck u (get_or mins q (pos 0)) q before after o) (out : get_or m q false ≡ false) where
+  module _ (after : List Mask) (o : Pair) (s : Struck u (get_or mins q (pos 0)) q before after o) (out : get_or m q false ≡ false) where
     abbrev d : Chutes
     d = domain_at mins before q
 
@@ -121,13 +122,17 @@ module _ (m : Places) (u : Chutes) (all : Swept) (mins : List ℤ) (n q : ℕ) (
         rw (listed-set mins before after n q h s.others)
         (so ∙ sweep-outside m u (listed mins before n) q c in_m in_d e o.changed out struck lose (ap (λ (b : Bool). b && not (some e)) (sym lose) ∙ emptied ∙ ap not t))
 
-    pub stop : o.consistent ≡ false → all ≡ record { domains = listed mins after n; changed = true; consistent = false }
+    -- an emptied domain has changed
+    gone : o.consistent ≡ false → o.changed ≡ true
+    gone t = sym lose ∙ (and_parts (lost e (get_or (listed mins before n) q [])) (not (some e)) (emptied ∙ ap not t)).0
+
+    pub stop : o.consistent ≡ false → all ≡ swept o (listed mins after n)
     stop t =
-        rw (listed-set mins before after n q h s.others)
+        rw (listed-set mins before after n q h s.others, gone t, t)
         (so ∙ sweep-stop m u (listed mins before n) q c in_m in_d e out struck (emptied ∙ ap not t))
 
 -- it is at its end
-pub done : (m : Places) (u : Chutes) (all : Swept) (mins : List ℤ) (n : ℕ) (c : Bool) (ws : List ℕ) → So m u (listed mins ws n) c n all → length m ≡ n → all ≡ record { domains = listed mins ws n; changed = c; consistent = true }
+pub done : (m : Places) (u : Chutes) (all : Swept) (mins : List ℤ) (n : ℕ) (c : Bool) (ws : List Mask) → So m u (listed mins ws n) c n all → length m ≡ n → all ≡ record { domains = listed mins ws n; changed = c; consistent = true }
 done m u all mins n c ws so e =
     let l : length (listed mins ws n) ≤ n = omega (arith, listed-length mins ws n) in
     let k : length m ≤ n = omega arith in
@@ -155,17 +160,17 @@ sweep-unchanged (false ∷ m) u (d ∷ ds) e = go (lost (strike u d) d) refl (no
 
 -- ---- what is past the list
 
-pub left-none : (n : ℕ) (ws : List ℕ) → Room ws → Left n ws ws
+pub left-none : (n : ℕ) (ws : List Mask) → Room ws → Left n ws ws
 left-none n ws r = record { room = r; past = λ p h. refl; fewer = λ p k h. h }
 
-pub left-then : (n : ℕ) (first before after : List ℕ) → Left n first before → Left n before after → Left n first after
+pub left-then : (n : ℕ) (first before after : List Mask) → Left n first before → Left n before after → Left n first after
 left-then n first before after l s = record {
   room = s.room;
   past = λ p h. s.past p h ∙ l.past p h;
   fewer = λ p k h. l.fewer p k (s.fewer p k h);
 }
 
-pub left-more : (n q : ℕ) (first before after : List ℕ) (u : Chutes) (lo : ℤ) (o : Outcome) → q < n → Left n first before → Struck u lo q before after o → Left n first after
+pub left-more : (n q : ℕ) (first before after : List Mask) (u : Chutes) (lo : ℤ) (o : Pair) → q < n → Left n first before → Struck u lo q before after o → Left n first after
 left-more n q first before after u lo o h l s =
     left-then n first before after l (record { room = s.room; past = λ p k. s.others p (λ e. omega arith); fewer = fewer })
   where

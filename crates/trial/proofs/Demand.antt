@@ -2,14 +2,14 @@
 -- allow exactly the ways that those at the mark allow and that the work in force permits (`trial-exact`); the destinations, their order and their
 -- universes stay (`trial-alike`); restoring the mark gives every domain back, bit for bit, and the older marks with them (`trial-restored`); keeping
 -- it leaves every domain, and the older marks (`trial-kept`); an inconsistent answer refutes (`trial-refutes`). Each follows from the rules' theorem through the view.
-use Rattle.std.specs.Prelude.{◌≡◌, refl, Bool, true, false, List, [], ◌∷◌, map, ℕ, suc, ◌+◌, ◌<◌, T, ltb, length}
+use Rattle.std.specs.Prelude.{◌≡◌, refl, Bool, true, false, List, [], ◌∷◌, map, ℕ, suc, ◌+◌, ◌<◌, T, ltb, length, Result}
+use Rattle.std.specs.declared.result.Result.TheVariants.{Ok}
+use Rattle.rules.specs.declared.Refusal.{Refusal}
 use Rattle.std.proofs.Common.{sym, ap, ◌∙◌, subst, add-one, arith, ltb-true, ltb-false, lt-ltb}
 use Rattle.rules.specs.Sets.{some, Every, Different}
 use Rattle.rules.specs.Board as rules
 use Rattle.rules.specs.Trial.{Way, Allowed, Differs, Permits, trial, after, log}
 use Rattle.rules.proofs.Trials as proved
-use Rattle.domain.specs.declared.Outcome.{Outcome}
-use Rattle.domain.specs.declared.Outcome.TheVariants as outcome
 use Rattle.board.specs.Well.{well_board}
 use Rattle.board.specs.View.{view}
 use Rattle.board.specs.Answers.{done}
@@ -27,7 +27,7 @@ use Rattle.trial.proofs.Words.{same-words}
 use Rattle.trial.proofs.Worded.{restore-worded}
 
 -- a mark is accepted only on a well-formed board with fewer than 8 marks (`mark-done`: and on each of them)
-pub accepted-well : (b : Board) → (mark_of b).answer ≡ outcome.Done → (well_board b ≡ true) × (b.marks < 8)
+pub accepted-well : (b : Board) → (mark_of b).answer ≡ Ok tt → (well_board b ≡ true) × (b.marks < 8)
 accepted-well b e = go (well_board b) refl (ltb b.marks 8) refl
   where
     go : (x : Bool) → well_board b ≡ x → (y : Bool) → ltb b.marks 8 ≡ y → (well_board b ≡ true) × (b.marks < 8)
@@ -40,7 +40,7 @@ some-open : (k : ℕ) (ss : List Step) → Every (λ s. k < s.board.marks) ss �
 some-open k [] h = tt
 some-open k (s ∷ ss) h = (omega (arith, h.0), some-open k ss h.1)
 
-module _ (b : Board) (whole : Whole b) (accepted : (mark_of b).answer ≡ outcome.Done) (ss : List Step) (chain : Chain (mark_of b).board ss) (still : StaysOpen b ss) where
+module _ (b : Board) (whole : Whole b) (accepted : (mark_of b).answer ≡ Ok tt) (ss : List Step) (chain : Chain (mark_of b).board ss) (still : StaysOpen b ss) where
   -- the board at the mark, and now
   abbrev begun : Board
   begun = (mark_of b).board
@@ -52,7 +52,7 @@ module _ (b : Board) (whole : Whole b) (accepted : (mark_of b).answer ≡ outcom
   well = (accepted-well b accepted).0
 
   begins : Obeys rules.mark b begun rules.done
-  begins = subst (λ (o : Outcome). Obeys rules.mark b (mark_of b).board (outcome_of o)) accepted (mark-obeys b whole well)
+  begins = subst (λ (o : Result Unit Refusal). Obeys rules.mark b (mark_of b).board (outcome_of o)) accepted (mark-obeys b whole well)
 
   is-marked : begun ≡ marked b
   is-marked = ap (λ (s : Settled). s.board) (mark-done b well (accepted-well b accepted).1)
@@ -126,15 +126,15 @@ module _ (b : Board) (whole : Whole b) (accepted : (mark_of b).answer ≡ outcom
 
     module _ (x : Worded b) (y : Worded now) where
       -- and the words of a program's board: every domain is equal bit for bit
-      pub trial-restored : ((restore_of now).answer ≡ outcome.Done) × Same b back
+      pub trial-restored : ((restore_of now).answer ≡ Ok tt) × Same b back
       trial-restored = (
         ap (λ (s : Settled). s.answer) is-restored,
         same-words b back x (restore-worded now y) (alike_then b now back trial-alike (undone.stays some-mark)) trial-undone.0 trial-undone.1,
       )
 
       -- keeping it leaves every domain, and the older marks are those before it
-      pub trial-kept : ((keep_of now).answer ≡ outcome.Done) × ((keep_of now).board.rows ≡ now.rows) × SameMarks b (keep_of now).board
+      pub trial-kept : ((keep_of now).answer ≡ Ok tt) × ((keep_of now).board.rows ≡ now.rows) × SameMarks b (keep_of now).board
       trial-kept =
           let older : SameMarks b (restored now) = subst (λ (s : Settled). SameMarks b s.board) is-restored trial-restored.1.older in
-          subst (λ (s : Settled). (s.answer ≡ outcome.Done) × (s.board.rows ≡ now.rows) × SameMarks b s.board) (sym (keep-done now now-well some-mark))
+          subst (λ (s : Settled). (s.answer ≡ Ok tt) × (s.board.rows ≡ now.rows) × SameMarks b s.board) (sym (keep-done now now-well some-mark))
           (refl, refl, record { marks = older.marks; saved = older.saved })

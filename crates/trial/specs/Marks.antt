@@ -1,14 +1,10 @@
 -- What mark, restore and keep answer and what board each hands back, on every input.
-use Rattle.std.specs.Prelude.{Bool, cond, List, ℕ, zero, suc, ◌+◌, ◌-◌, eqb, ltb}
+use Rattle.std.specs.Prelude.{cond, List, ℕ, zero, suc, ◌+◌, ◌-◌, ltb}
 use Rattle.mask.specs.declared.Mask.{Mask}
-use Rattle.rules.specs.declared.Refusal.{Refusal}
-use Rattle.rules.specs.declared.Refusal.TheVariants.{Broken, TooDeep, NoMark}
+use Rattle.rules.specs.declared.Refusal.TheVariants.{TooDeep, NoMark}
 use Rattle.domain.specs.declared.BitDomain.{BitDomain}
-use Rattle.domain.specs.declared.Outcome.{Outcome}
-use Rattle.domain.specs.declared.Outcome.TheVariants as outcome
 use Rattle.saved.specs.Saved.{saved_at, put_at}
 use Rattle.board.specs.Rows.{domain_at, with_domain}
-use Rattle.board.specs.Well.{broken}
 use Rattle.board.specs.Answers.{done, denied, done_of}
 use Rattle.board.specs.declared.Row.{Row}
 use Rattle.board.specs.declared.Board.{Board}
@@ -48,17 +44,3 @@ restore_of b = done_of b (cond (ltb 0 b.marks) (done (restored b)) (denied b NoM
 
 unfoldable pub keep_of : Board → Settled
 keep_of b = done_of b (cond (ltb 0 b.marks) (done (released b)) (denied b NoMark))
-
--- ---- the steps of the code, by what `look` answered
-
-abbrev pub turns_of : ℕ → Bool → ℕ → ℕ
-turns_of at fine count = cond (eqb at broken) 0 (cond fine count 0)
-
-abbrev pub deeper_of : ℕ → ℕ → ℕ
-deeper_of at marks = cond (eqb at broken) marks (cond (ltb marks 8) (marks + 1) marks)
-
-abbrev pub fewer_of : ℕ → ℕ → ℕ
-fewer_of at marks = cond (eqb at broken) marks (marks - 1)
-
-abbrev pub settle_of : ℕ → Bool → Refusal → Outcome
-settle_of at fine why = cond (eqb at broken) (outcome.Refused Broken) (cond fine outcome.Done (outcome.Refused why))

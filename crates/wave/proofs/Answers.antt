@@ -15,7 +15,7 @@ Said changed consistent v = Terse (line_by (rules.judged v (rules.outcome change
 
 module _ (y z : Bool) where
   scanned : (rs : rules.Rows) (seen : List ℕ) (p : ℕ) (is : List ℕ) → p + length is ≤ 64 → Said y z (rules.scan rs seen p is)
-  scanned rs seen p [] h = record { number = omega arith; place = omega arith }
+  scanned rs seen p [] h = tt
   scanned rs seen p (i ∷ is) h =
       on-cond (Said y z) (rules.known rs i)
       (λ t. on-cond (Said y z) (not (rules.among i seen)) (λ u. scanned rs (i ∷ seen) (suc p) is (omega arith)) (record { number = omega arith; place = omega arith }))

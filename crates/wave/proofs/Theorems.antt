@@ -1,6 +1,7 @@
 -- What the wave prints is what the rules of 01 say of its sheet; its text is never longer than `most`; it is refused exactly where the text doesn't
 -- fit, so with that much room never. Assumes nothing.
-use Rattle.std.specs.Prelude.{◌≡◌, refl, Bool, true, false, List, [], ◌∷◌, ◌++◌, map, ◌↔◌, ℕ, suc, ◌≤◌, ◌<◌, leb, length, take, drop}
+use Rattle.std.specs.Prelude.{◌≡◌, refl, Bool, true, false, List, [], ◌∷◌, ◌++◌, map, ◌↔◌, ℕ, suc, ◌≤◌, ◌<◌, leb, length, take, drop, Result}
+use Rattle.std.specs.declared.result.Result.TheVariants.{Ok}
 use Rattle.std.proofs.Common.{sym, ap, ap₂, ◌∙◌, subst, arith, leb-true, leb-false}
 use Rattle.std.proofs.lemmas.List.{length-map}
 use Rattle.rules.specs.Board as rules
@@ -8,11 +9,11 @@ use Rattle.rules.specs.declared.Refusal.TheVariants.{NoRoom}
 use Rattle.rules.proofs.WellFormed.{well-blank, well-run}
 use Rattle.board.specs.View.{view}
 use Rattle.board.proofs.WellLaws.{well-says}
-use Rattle.domain.specs.declared.Counted.TheVariants.{Count}
 use Rattle.domain_text.specs.Text.{Written, refuses}
 use Rattle.domain_text.proofs.Writes.{room, no_room}
 use Rattle.sheet_form.specs.declared.Destination.{Destination}
-use Rattle.sheet_form.specs.declared.Line.{Line}
+use Rattle.rules.specs.declared.Pair.{Pair}
+use Rattle.rules.specs.declared.Refusal.{Refusal}
 use Rattle.sheet_form.specs.Sheet.{Sheet, All, Few}
 use Rattle.sheet_form.specs.Held.{filled}
 use Rattle.sheet_number.specs.Number.{Got, got, fault}
@@ -43,7 +44,7 @@ ruled sh =
 
 told-ruled : (sh : Sheet) (e : ℕ) → told_of (got sh e) ≡ ruled sh
 unfolding told_of
-told-ruled sh e = ap₂ (λ (b : rules.Board) (ls : List Line). printed b.now ls) (board-view sh) (lines-answers sh)
+told-ruled sh e = ap₂ (λ (b : rules.Board) (ls : List (Result Pair Refusal)). printed b.now ls) (board-view sh) (lines-answers sh)
 
 pub prints-ruled : (bytes : List ℕ) (sh : Sheet) (e : ℕ) → read_sheet bytes ≡ got sh e → wave_text bytes ≡ ruled sh
 unfolding wave_text
@@ -111,7 +112,7 @@ either {A} m n f g = go (leb m n) refl
 module _ (bytes cells : List ℕ) where
   -- the text in the first of the lent bytes, the others as they came, and how long it is
   abbrev pub text_first : Written
-  text_first = record { answer = Count (length (wave_text bytes)); cells = wave_text bytes ++ drop (length (wave_text bytes)) cells }
+  text_first = record { answer = Ok (length (wave_text bytes)); cells = wave_text bytes ++ drop (length (wave_text bytes)) cells }
 
   fits : length (wave_text bytes) ≤ length cells → wave_of bytes cells ≡ text_first
   unfolding wave_of
@@ -132,7 +133,7 @@ module _ (bytes cells : List ℕ) where
       (λ k. ((λ e. absurd (apart (sym e ∙ refused k)), λ h. absurd (omega arith)), (λ e. k, refused)))
 
   -- with as much room as `most` the wave is never refused
-  pub always-room : most ≤ length cells → (wave_of bytes cells).answer ≡ Count (length (wave_text bytes))
+  pub always-room : most ≤ length cells → (wave_of bytes cells).answer ≡ Ok (length (wave_text bytes))
   always-room h = ap (λ (w : Written). w.answer) (room-exactly.0.1 (omega (arith, text-few bytes)))
 
 -- ---- what the code comes to

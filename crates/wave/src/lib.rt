@@ -10,9 +10,7 @@ ghost use Rattle.decimal.specs.Put.{put_of};
 ghost use Rattle.wave_print.specs.Print.{most};
 ghost use Rattle.wave.specs.Text.{wave_text, wave_of, ran_text};
 
-use domain::Counted;
 use rules::Refusal;
-use sheet_number::Step;
 use wave_form::Ran;
 
 // How long a sheet's text can be.
@@ -30,7 +28,7 @@ fn put_ran(ran: Ran, out: &mut [u8]) -> usize
 {
     let rows = ran.rows;
     let lines = ran.lines;
-    wave_print::put_board(rows, ran.count, lines, ran.ln, out)
+    wave_print::put_board(&rows[..ran.count], &lines[..ran.ln], out)
 }
 
 // Puts the text at the start, and answers how long it is.
@@ -38,30 +36,22 @@ fn put_wave(sheet: &[u8], out: &mut [u8]) -> usize
     requires { most ≤ length out.old }
     ensures { record { next = result; cells = out.new } ≡ put_of (wave_text sheet.now) out.old 0 }
 {
-    let read = sheet::read_sheet(sheet);
-    let end = read.end;
-    match end {
-        Step::Bad(why, place) => {
-            let r = sheet::refusal(why, place);
-            wave_print::put_refusal(r.number(), r.place(), out, 0)
-        }
-        Step::At(_) => {
-            let p = read.parsed;
-            put_ran(wave_run::run(p), out)
-        }
+    match sheet::read_sheet(sheet) {
+        Err(stop) => wave_print::put_refusal(sheet::refusal(stop), out, 0),
+        Ok((parsed, _)) => put_ran(wave_run::run(parsed), out),
     }
 }
 
 // Registers the sheet's destinations, applies its closings in order, propagates each of its lists once, and writes the board and what each list
 // was answered; of a bad sheet, its refusal. NoRoom: the text is longer than out.
-pub fn wave(sheet: &[u8], out: &mut [u8]) -> Counted
+pub fn wave(sheet: &[u8], out: &mut [u8]) -> Result<usize, Refusal>
     ensures { record { answer = result; cells = out.new } ≡ wave_of sheet.now out.old }
 {
     let mut text = page();
     let n = put_wave(sheet, &mut text);
     if out.len() < n {
-        return Counted::Refused(Refusal::NoRoom);
+        return Err(Refusal::NoRoom);
     }
     out[..n].copy_from_slice(&text[..n]);
-    Counted::Count(n)
+    Ok(n)
 }

@@ -13,14 +13,14 @@ use Rattle.board.specs.declared.Row.{Row}
 use Rattle.board.specs.declared.Settled.{Settled}
 use Rattle.board.proofs.Seats.{seat-agree}
 use Rattle.board.proofs.ViewLaws.{seat-below}
-use Rattle.board_enter.specs.Enter.{blank, entered, place_for}
+use Rattle.board_enter.specs.Enter.{blank, entered}
 use Rattle.board_enter.proofs.Entering.{enter-known, enter-new}
 use Rattle.sheet_form.specs.Held.{no_destination}
 use Rattle.sheet_form.specs.declared.Destination.{Destination}
 use Rattle.wave_form.specs.Wave.{registering, each}
 use Rattle.wave_form.proofs.Each.{each_more}
 use Rattle.wave_form.proofs.Theorems.{blank-good, registered-good, registered-marks, registered-count}
-use Rattle.wave_enter.specs.Registered.{Marked, registered_of}
+use Rattle.wave_enter.specs.Registered.{Marked, place_for, registered_of}
 
 -- how `search (needs, all-rows)` finds that an array of destinations has all its rows
 pub all-rows : (Y : Type 0) (g : Destination → Y) (l : List Destination) (n : ℕ) → length (map g l) ≡ n → length l ≡ n
@@ -31,21 +31,21 @@ abbrev pub after : List Destination → Board
 after ds = each registering ds blank
 
 -- what the loop holds then: its rows, their ids, and a marked cell for each
-pub record Open (ds : List Destination) (rows : List Row) (count : ℕ) (ids met : List ℕ) : Type 0 where
+pub record Open (ds : List Destination) (rows : List Row) (count : ℕ) (ids : List ℕ) (met : List Bool) : Type 0 where
   pub held : rows ≡ (after ds).rows
   pub counted : count ≡ (after ds).count
   pub copied : (k : ℕ) → k < count → get_or ids k 0 ≡ id_at rows k
   pub marked : Marked ids met count
 
-pub open-start : (b : Board) → b ≡ blank → (ids met : List ℕ) → Open [] b.rows 0 ids met
+pub open-start : (b : Board) → b ≡ blank → (ids : List ℕ) (met : List Bool) → Open [] b.rows 0 ids met
 unfolding each blank
 open-start b e ids met =
     record { held = ap (λ (c : Board). c.rows) e; counted = refl; copied = λ k l. absurd (not-suc-le-zero l); marked = λ k l. absurd (not-suc-le-zero l) }
 
-pub open-end : (ds : List Destination) (rows : List Row) (count : ℕ) (ids met : List ℕ) → Open ds rows count ids met → record { rows = rows; count = count } ≡ registered_of ds
+pub open-end : (ds : List Destination) (rows : List Row) (count : ℕ) (ids : List ℕ) (met : List Bool) → Open ds rows count ids met → record { rows = rows; count = count } ≡ registered_of ds
 open-end ds rows count ids met o = λ t. record { rows = o.held t; count = o.counted t }
 
-module _ (ds : List Destination) (i : ℕ) (l : i < length ds) (few : i < 64) (rows : List Row) (count : ℕ) (ids met : List ℕ) (o : Open (take i ds) rows count ids met) where
+module _ (ds : List Destination) (i : ℕ) (l : i < length ds) (few : i < 64) (rows : List Row) (count : ℕ) (ids : List ℕ) (met : List Bool) (o : Open (take i ds) rows count ids met) where
   abbrev b : Board
   b = after (take i ds)
 
@@ -123,26 +123,26 @@ module _ (ds : List Destination) (i : ℕ) (l : i < length ds) (few : i < 64) (r
         copied_more k h (no q) =
             get_or-set_other ids to k n 0 q ∙ o.copied k (others k h q) ∙ sym (ap (λ (r : Row). r.id.0) (get_or-set_other rows to k row row0 q))
 
-        here : get_or (set met (n % 1024) 1) (n % 1024) 0 ≡ 1
-        here = get_or-set_same met (n % 1024) 1 0 (small n)
+        here : get_or (set met (n % 1024) true) (n % 1024) false ≡ true
+        here = get_or-set_same met (n % 1024) true false (small n)
           where
             small : (m : ℕ) → m % 1024 < length met
             small m = omega arith
 
-        marked_next : (k : ℕ) → k < more → Dec (k ≡ to) → get_or (set met (n % 1024) 1) (get_or (set ids to n) k 0 % 1024) 0 ≡ 1
+        marked_next : (k : ℕ) → k < more → Dec (k ≡ to) → get_or (set met (n % 1024) true) (get_or (set ids to n) k 0 % 1024) false ≡ true
         marked_next k h (yes q) =
-            ap (λ (j : ℕ). get_or (set met (n % 1024) 1) (get_or (set ids to n) j 0 % 1024) 0) q
-            ∙ ap (λ (m : ℕ). get_or (set met (n % 1024) 1) (m % 1024) 0) (get_or-set_same ids to n 0 (let f = fits in omega arith))
+            ap (λ (j : ℕ). get_or (set met (n % 1024) true) (get_or (set ids to n) j 0 % 1024) false) q
+            ∙ ap (λ (m : ℕ). get_or (set met (n % 1024) true) (m % 1024) false) (get_or-set_same ids to n 0 (let f = fits in omega arith))
             ∙ here
         marked_next k h (no q) =
-            ap (λ (m : ℕ). get_or (set met (n % 1024) 1) (m % 1024) 0) (get_or-set_other ids to k n 0 q)
+            ap (λ (m : ℕ). get_or (set met (n % 1024) true) (m % 1024) false) (get_or-set_other ids to k n 0 q)
             ∙ go (ℕ_discrete (get_or ids k 0 % 1024) (n % 1024))
           where
-            go : Dec (get_or ids k 0 % 1024 ≡ n % 1024) → get_or (set met (n % 1024) 1) (get_or ids k 0 % 1024) 0 ≡ 1
-            go (yes z) = ap (λ (c : ℕ). get_or (set met (n % 1024) 1) c 0) z ∙ here
-            go (no z) = get_or-set_other met (n % 1024) (get_or ids k 0 % 1024) 1 0 z ∙ o.marked k (others k h q)
+            go : Dec (get_or ids k 0 % 1024 ≡ n % 1024) → get_or (set met (n % 1024) true) (get_or ids k 0 % 1024) false ≡ true
+            go (yes z) = ap (λ (c : ℕ). get_or (set met (n % 1024) true) c false) z ∙ here
+            go (no z) = get_or-set_other met (n % 1024) (get_or ids k 0 % 1024) true false z ∙ o.marked k (others k h q)
 
-        pub open_more : Open (take (i + 1) ds) (set rows to row) more (set ids to n) (set met (n % 1024) 1)
+        pub open_more : Open (take (i + 1) ds) (set rows to row) more (set ids to n) (set met (n % 1024) true)
         open_more = record {
           held = (λ t. set (o.held t) to (record { id = d.id; domain = ex t })) ∙ sym (ap (λ (c : Board). c.rows) stands);
           counted = sym (ap (λ (c : Board). c.count) stands);

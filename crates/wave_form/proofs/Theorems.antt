@@ -1,10 +1,10 @@
 -- What a sheet leads to is what the rules of 01 say: the board, and every list's answer. No registration is refused.
-use Rattle.std.specs.Prelude.{◌≡◌, refl, Bool, true, false, cond, List, [], ◌∷◌, map, ℕ, ◌+◌, ◌<◌, ◌≤◌, eqb, ltb, length, take}
+use Rattle.std.specs.Prelude.{◌≡◌, refl, Bool, true, false, cond, List, [], ◌∷◌, map, ℕ, ◌+◌, ◌<◌, ◌≤◌, eqb, ltb, length, take, Result}
+use Rattle.std.specs.declared.result.Result.TheVariants.{Ok, Err}
 use Rattle.std.proofs.Common.{sym, ap, ◌∙◌, arith, length-take-le, ltb-true, ltb-false}
 use Rattle.rules.specs.Board as rules
 use Rattle.rules.specs.declared.Refusal.TheVariants.{Broken, Full, TrialOpen}
 use Rattle.domain.specs.Calls.{new_of}
-use Rattle.domain.specs.declared.Outcome.TheVariants as outcome
 use Rattle.closing.specs.Kinds.{kind_of}
 use Rattle.closing.specs.declared.Closing.{Closing}
 use Rattle.board.specs.Rows.{nowhere, seat}
@@ -20,12 +20,12 @@ use Rattle.board_enter.proofs.Theorems.{add-obeys, blank-well, blank-whole, blan
 use Rattle.board_close.specs.Close.{close_of}
 use Rattle.board_close.proofs.Theorems.{close-obeys}
 use Rattle.board_spread.specs.Spread.{spread_of, pair_of}
-use Rattle.board_spread.specs.declared.Pair.{Pair}
+use Rattle.rules.specs.declared.Pair.{Pair}
 use Rattle.board_spread.proofs.Theorems.{spread-obeys}
 use Rattle.sheet_form.specs.Sheet.{Sheet, Few}
 use Rattle.sheet_form.specs.declared.Destination.{Destination}
-use Rattle.sheet_form.specs.declared.Line.{Line}
-use Rattle.wave_form.specs.Wave.{registering, closing, spreading, answering, each, told, closed_of, board_of, pairs_of, line_by, line_of, lines_of, registers, closes, opening_of, calls_of}
+use Rattle.rules.specs.declared.Refusal.{Refusal}
+use Rattle.wave_form.specs.Wave.{registering, closing, spreading, answering, each, told, closed_of, board_of, pairs_of, line_by, lines_of, registers, closes, opening_of, calls_of}
 use Rattle.wave_form.proofs.Each.{each_keeps, each-good, each-view, run-append}
 
 -- a board that every call takes
@@ -64,9 +64,13 @@ pairs-answers (l ∷ ls) b g =
     let rest = pairs-answers ls (spreading l b) (o.whole, o.well) ∙ ap (rules.answers (map rules.spread ls)) o.acts in
     λ t. o.answers t ∷ rest t
 
-lines-by : (ps : List Pair) → map line_of ps ≡ map line_by (map pair_of ps)
+line-by : (p : Result Pair Refusal) → p ≡ line_by (pair_of p)
+line-by (Ok p) = refl
+line-by (Err r) = refl
+
+lines-by : (ps : List (Result Pair Refusal)) → ps ≡ map line_by (map pair_of ps)
 lines-by [] = refl
-lines-by (p ∷ ps) = ap (λ (l : List Line). line_of p ∷ l) (lines-by ps)
+lines-by (p ∷ ps) = λ t. line-by p t ∷ lines-by ps t
 
 -- ---- a sheet
 
@@ -166,15 +170,15 @@ unfolding blank
 registered-count ds = let n = count-from ds blank in omega arith
 
 -- a destination that finds a row free, or its own
-pub accepted : (d : Destination) (b : Board) → well_board b ≡ true → b.marks ≡ 0 → b.count < 64 → (enter_of b d.id (new_of true d.min d.max)).answer ≡ outcome.Done
+pub accepted : (d : Destination) (b : Board) → well_board b ≡ true → b.marks ≡ 0 → b.count < 64 → (enter_of b d.id (new_of true d.min d.max)).answer ≡ Ok tt
 accepted d b w m n = go (ltb (seat b d.id.0) 64) refl
   where
-    go : (t : Bool) → ltb (seat b d.id.0) 64 ≡ t → (enter_of b d.id (new_of true d.min d.max)).answer ≡ outcome.Done
+    go : (t : Bool) → ltb (seat b d.id.0) 64 ≡ t → (enter_of b d.id (new_of true d.min d.max)).answer ≡ Ok tt
     go true e = ap (λ (r : Settled). r.answer) (enter-known b d.id (new_of true d.min d.max) w m (ltb-true (seat b d.id.0) 64 e))
     go false e = ap (λ (r : Settled). r.answer) (enter-new b d.id (new_of true d.min d.max) w m (ltb-false (seat b d.id.0) 64 e) n)
 
 -- every registration of a sheet is accepted
-pub registrations-accepted : (sh : Sheet) → Few sh → (i : ℕ) (d : Destination) → i < length sh.destinations → (enter_of (each registering (take i sh.destinations) blank) d.id (new_of true d.min d.max)).answer ≡ outcome.Done
+pub registrations-accepted : (sh : Sheet) → Few sh → (i : ℕ) (d : Destination) → i < length sh.destinations → (enter_of (each registering (take i sh.destinations) blank) d.id (new_of true d.min d.max)).answer ≡ Ok tt
 registrations-accepted sh few i d l =
     let ds = take i sh.destinations in
     let n = registered-count ds in

@@ -4,6 +4,8 @@ use Rattle.mask.specs.Val.{val, mask_of}
 use Rattle.mask.specs.Sets.{members_from, members_in}
 use Rattle.offset.specs.Places.{span_of}
 use Rattle.rules.specs.Board as rules
+use Rattle.std.specs.declared.result.Result.TheVariants.{Ok, Err}
+use Rattle.rules.specs.declared.Refusal.TheVariants.{Unknown}
 use Rattle.rules.specs.Pass.{pass, raises, step1, step2}
 use Rattle.domain.specs.Set.{values_of, bits_of}
 use Rattle.domain.specs.Calls.{new_of, between_of}
@@ -38,6 +40,6 @@ pub sample-leaves : map (λ (r : rules.Row). r.chutes) (rules.run (calls_of samp
 unfolding sample new_of between_of values_of bits_of span_of val mask_of members_from members_in pass raises step1 step2
 sample-leaves = refl
 
-pub sample-lines : map line_by (rules.answers (map rules.spread sample.lists) (rules.run (opening_of sample) rules.blank)) ≡ record { number = 0; place = 0; changed = true; consistent = false } ∷ record { number = 6; place = 1; changed = false; consistent = false } ∷ []
+pub sample-lines : map line_by (rules.answers (map rules.spread sample.lists) (rules.run (opening_of sample) rules.blank)) ≡ Ok (record { changed = true; consistent = false }) ∷ Err (Unknown 1) ∷ []
 unfolding sample new_of between_of values_of bits_of span_of val mask_of members_from members_in pass raises step1 step2
 sample-lines = refl

@@ -1,7 +1,8 @@
 -- What a sheet leads to: the public calls that it asks for, one after another, from a blank board on. Assumes nothing.
-use Rattle.std.specs.Prelude.{true, false, List, [], ◌∷◌, ◌++◌, map, ℕ, length, take, drop}
+use Rattle.std.specs.Prelude.{true, false, List, [], ◌∷◌, ◌++◌, map, ℕ, length, take, drop, Result}
 use Rattle.rules.specs.Board as rules
-use Rattle.rules.specs.Refusals.{number_of, place_of}
+use Rattle.std.specs.declared.result.Result.TheVariants.{Ok, Err}
+use Rattle.rules.specs.declared.Refusal.{Refusal}
 use Rattle.domain.specs.Set.{set_of}
 use Rattle.domain.specs.Calls.{new_of}
 use Rattle.closing.specs.Kinds.{kind_of}
@@ -9,14 +10,13 @@ use Rattle.closing.specs.declared.Closing.{Closing}
 use Rattle.board.specs.declared.Board.{Board}
 use Rattle.board_enter.specs.Enter.{blank, enter_of}
 use Rattle.board_close.specs.Close.{close_of}
-use Rattle.board_spread.specs.Spread.{spread_of, pair_of}
-use Rattle.board_spread.specs.declared.Pair.{Pair}
+use Rattle.board_spread.specs.Spread.{spread_of}
+use Rattle.rules.specs.declared.Pair.{Pair}
 use Rattle.sheet_form.specs.Sheet.{Sheet}
 use Rattle.sheet_form.specs.Held.{filled}
 use Rattle.sheet_form.specs.declared.Destination.{Destination}
 use Rattle.sheet_form.specs.declared.Span.{Span}
 use Rattle.sheet_form.specs.declared.Parsed.{Parsed}
-use Rattle.sheet_form.specs.declared.Line.{Line}
 use Rattle.wave_form.specs.declared.Ran.{Ran}
 
 -- ---- the public calls
@@ -30,7 +30,7 @@ closing k b = (close_of (kind_of k.kind) b k.id k.value).board
 abbrev pub spreading : List ℕ → Board → Board
 spreading is b = (spread_of b is).board
 
-abbrev pub answering : List ℕ → Board → Pair
+abbrev pub answering : List ℕ → Board → Result Pair Refusal
 answering is b = (spread_of b is).answer
 
 -- each in order, on what the last one left; and what each answers
@@ -53,18 +53,18 @@ unfoldable pub board_of : Sheet → Board
 board_of sh = each spreading sh.lists (closed_of sh)
 
 -- what each list is answered
-unfoldable pub pairs_of : Sheet → List Pair
+unfoldable pub pairs_of : Sheet → List (Result Pair Refusal)
 pairs_of sh = told spreading answering sh.lists (closed_of sh)
 
 -- ---- what is told of it
 
-abbrev pub no_line : Line
-no_line = record { number = 0; place = 0; changed = false; consistent = false }
+abbrev pub no_line : Result Pair Refusal
+no_line = Ok (record { changed = false; consistent = false })
 
--- number 0 and the pair, or the number and the place of the refusal; a list is answered nothing else
-abbrev pub line_by : rules.Answer → Line
-line_by (rules.outcome changed consistent) = record { number = 0; place = 0; changed = changed; consistent = consistent }
-line_by (rules.denied r) = record { number = number_of r; place = place_of r; changed = false; consistent = false }
+-- the pair, or the refusal; a list is answered nothing else
+abbrev pub line_by : rules.Answer → Result Pair Refusal
+line_by (rules.outcome changed consistent) = Ok (record { changed = changed; consistent = consistent })
+line_by (rules.denied r) = Err r
 line_by rules.done = no_line
 line_by (rules.said y) = no_line
 line_by (rules.count n) = no_line
@@ -73,11 +73,8 @@ line_by (rules.ends lo hi) = no_line
 line_by (rules.held vs) = no_line
 line_by (rules.named is) = no_line
 
-abbrev pub line_of : Pair → Line
-line_of p = line_by (pair_of p)
-
-abbrev pub lines_of : Sheet → List Line
-lines_of sh = map line_of (pairs_of sh)
+abbrev pub lines_of : Sheet → List (Result Pair Refusal)
+lines_of sh = pairs_of sh
 
 unfoldable pub ran_of : Sheet → Ran
 ran_of sh = record { rows = (board_of sh).rows; count = (board_of sh).count; lines = filled 16 no_line (lines_of sh); ln = length sh.lists }
@@ -90,9 +87,9 @@ part ids s = take s.len (drop s.start ids)
 unfoldable pub sheet_of : Parsed → Sheet
 sheet_of p =
     record {
-      destinations = take p.dn p.destinations;
-      closings = take p.cn p.closings;
-      lists = map (part p.ids) (take p.ln p.lists);
+      destinations = take p.destinations.count p.destinations.rows;
+      closings = take p.closings.count p.closings.rows;
+      lists = map (part p.ids) (take p.lists.count p.lists.rows);
     }
 
 -- ---- in the words of the rules

@@ -4,13 +4,13 @@
 #![tactic(auto)]
 
 use board::Row;
-use sheet_form::Line;
+use rules::{Pair, Refusal};
 
 // The destinations as the last list leaves them, and what each list was answered; the other rows and lines are blank.
 #[derive(Clone, Copy)]
 pub struct Ran {
     pub rows: [Row; 64],
     pub count: usize,
-    pub lines: [Line; 16],
+    pub lines: [Result<Pair, Refusal>; 16],
     pub ln: usize,
 }

@@ -13,7 +13,6 @@ ghost use Rattle.wave.specs.Text.{wave_text};
 ghost use Rattle.wave_io.specs.Board.{IsPrefixLen, board_of};
 ghost use Rattle.wave_io.specs.Failures.{OnRead};
 
-use domain::Counted;
 use std::env::FillError;
 use std::fs::File;
 use std::io;
@@ -58,10 +57,7 @@ fn written(sheet: &[u8], out: &mut [u8]) -> usize
     ensures within { IsPrefixLen result out.new }
     ensures text { most ≤ length out.old → take result out.new ≡ wave_text sheet.now }
 {
-    match wave::wave(sheet, out) {
-        Counted::Count(n) => n,
-        Counted::Refused(_) => 0,
-    }
+    wave::wave(sheet, out).unwrap_or(0)
 }
 
 // Reads a sheet and writes its board.
@@ -77,10 +73,7 @@ fn answer<R: Read + Drop, W: Write>(mut input: R, output: &mut W) -> Result<(), 
     };
     let mut out = [0u8; wave::MOST];
     let k = written(&sheet[..n], &mut out);
-    match output.write_all(&out[..k]) {
-        Ok(()) => Ok(()),
-        Err(e) => Err(Failed::Write(e)),
-    }
+    output.write_all(&out[..k]).map_err(Failed::Write)
 }
 
 // What is told on standard error of what failed.

@@ -1,22 +1,24 @@
 -- Lists one by one: what the loop holds after some of them, and that rows alone are propagated as their board is.
-use Rattle.std.specs.Prelude.{◌≡◌, refl, Bool, true, false, List, [], ◌∷◌, ◌++◌, map, ℕ, suc, ◌+◌, ◌-◌, ◌<◌, ◌≤◌, min, ltb, length, get_or, set, take, drop, replicate}
-use Rattle.std.proofs.Common.{sym, ap, ◌∙◌, subst, arith, ltb-true, ltb-false, length-drop, drop_of_length-le, take_all, length-take-le}
-use Rattle.std.proofs.lemmas.List.{map-append, length-map}
+use Rattle.std.specs.Prelude.{◌≡◌, refl, Bool, true, false, List, [], ◌∷◌, ◌++◌, map, ℕ, suc, ◌+◌, ◌<◌, ◌≤◌, min, ltb, length, get_or, set, take, replicate, Result}
+use Rattle.std.proofs.Common.{sym, ap, ◌∙◌, subst, arith, ltb-true, ltb-false, take_all, length-take-le}
+use Rattle.std.proofs.lemmas.List.{length-map}
 use Rattle.std.proofs.lemmas.List.Edits.{sets}
 use lib.ListN.{get_or-map}
-use lib.Seq.{take-length, drop-length, get_or-take}
+use lib.Seq.{take-length}
 use Rattle.board.specs.declared.Board.{Board}
 use Rattle.board.specs.declared.Row.{Row}
-use Rattle.board_spread.specs.Spread.{pruned_of}
-use Rattle.board_spread.specs.declared.Pair.{Pair}
-use Rattle.board_spread.specs.declared.Pruned.{Pruned}
+use Rattle.board_spread.specs.Spread.{Pruned, pruned, pruned_of}
+use Rattle.rules.specs.declared.Pair.{Pair}
+use Rattle.rules.specs.declared.Refusal.{Refusal}
+use Rattle.alldiff.specs.declared.Passed.{Passed}
+use Rattle.std.specs.Result.{MatchResult, IsOkAnd}
+use Rattle.std.specs.declared.result.Result.TheVariants.{Ok, Err}
 use Rattle.board_spread.specs.declared.Spread.{Spread}
 use Rattle.board_spread.proofs.Spreading.{spread-well}
 use Rattle.board_spread.proofs.Theorems.{spread-obeys}
 use Rattle.sheet_form.specs.Held.{no_span, filled}
-use Rattle.sheet_form.specs.declared.Line.{Line}
 use Rattle.sheet_form.specs.declared.Span.{Span}
-use Rattle.wave_form.specs.Wave.{each, told, spreading, answering, no_line, line_of, part}
+use Rattle.wave_form.specs.Wave.{each, told, spreading, answering, no_line, part}
 use Rattle.wave_form.proofs.Each.{each_more, told_more, told-length}
 use Rattle.wave_form.proofs.Theorems.{Good}
 use Rattle.wave_lists.specs.Listed.{pruning, prune_answers, listed_of}
@@ -39,28 +41,9 @@ module _ {A : Type 0} (k : ℕ) (l : List A) where
   pub take-least : take (min k (length l)) l ≡ take k l
   take-least = least-cases (λ n. take n l ≡ take k l) (λ h. refl) (λ h. take-length l ∙ sym (take_all k l h))
 
-  drop-least : drop (min k (length l)) l ≡ drop k l
-  drop-least = least-cases (λ n. drop n l ≡ drop k l) (λ h. refl) (λ h. drop-length l ∙ sym (drop_of_length-le l h))
-
-module _ (ids : List ℕ) where
-  -- as much of it as there is
-  pub part-is : (s : Span) (a k : ℕ) → a ≡ min s.start (length ids) → k ≡ min s.len (length ids - a) → take k (drop a ids) ≡ part ids s
-  part-is s a k ea ek =
-      let here : drop a ids ≡ drop s.start ids = ap (λ (n : ℕ). drop n ids) ea ∙ drop-least s.start ids in
-      let long : length (drop a ids) ≡ length ids - a = length-drop a ids in
-      let mine : k ≡ min s.len (length (drop a ids)) = ek ∙ ap (min s.len) (sym long) in
-      ap (λ (n : ℕ). take n (drop a ids)) mine ∙ take-least s.len (drop a ids) ∙ ap (take s.len) here
-
-  -- the list at place i of those that the first n spans tell
-  module _ (spans : List Span) (n : ℕ) where
-    abbrev pub lists_in : List (List ℕ)
-    lists_in = map (part ids) (take n spans)
-
-    pub lists_length : n ≤ length spans → length lists_in ≡ n
-    lists_length h = length-map (take n spans) (part ids) ∙ length-take-le n spans h
-
-    pub list_at : (i : ℕ) → i < n → get_or lists_in i (part ids no_span) ≡ part ids (get_or spans i no_span)
-    list_at i l = get_or-map (part ids) (take n spans) i no_span ∙ ap (part ids) (get_or-take n spans i no_span l)
+-- the list at place i
+pub list_at : (ids : List ℕ) (spans : List Span) (i : ℕ) → get_or (map (part ids) spans) i (part ids no_span) ≡ part ids (get_or spans i no_span)
+list_at ids spans i = get_or-map (part ids) spans i no_span
 
 -- ---- one line more
 
@@ -74,44 +57,53 @@ filled_more n blank l x k e = sets_last (replicate n blank) 0 k l x (omega arith
 
 -- ---- one list more
 
+-- what a list is answered
+abbrev pub Said : Type 0
+Said = Result Pair Refusal
+
+-- what stands behind the reference, and the pair of what the pass tells
+pub pruned-rows : (rows : List Row) (o : Result Passed Refusal) → (pruned rows o).rows ≡ rows
+pruned-rows rows (Ok p) = refl
+pruned-rows rows (Err r) = refl
+
+pub pruned-said : (rows : List Row) (o : Result Passed Refusal) (a : Said) (Q : Passed → Pair → Type 0) → ((p : Passed) (y : Pair) → Q p y → y ≡ p.answer) → MatchResult o (λ p. IsOkAnd a (Q p)) (λ e. a ≡ Err e) → (pruned rows o).answer ≡ a
+pruned-said rows (Ok p) (Ok y) Q q m = ap Ok (sym (q p y m))
+pruned-said rows (Ok p) (Err r) Q q m = absurd m
+pruned-said rows (Err r) a Q q m = sym m
+
 -- what the loop holds after these lists
-pub record Turned (count : ℕ) (ls : List (List ℕ)) (rows₀ rows : List Row) (lines : List Line) : Type 0 where
+pub record Turned (count : ℕ) (ls : List (List ℕ)) (rows₀ rows : List Row) (lines : List Said) : Type 0 where
   pub held : rows ≡ each (pruning count) ls rows₀
-  pub noted : lines ≡ filled 16 no_line (map line_of (told (pruning count) (prune_answers count) ls rows₀))
+  pub noted : lines ≡ filled 16 no_line (told (pruning count) (prune_answers count) ls rows₀)
 
 pub turned-start : (count : ℕ) (rows : List Row) → Turned count [] rows rows (replicate 16 no_line)
 unfolding each told filled
 turned-start count rows = record { held = refl; noted = refl }
 
-pub turned-end : (count : ℕ) (ls : List (List ℕ)) (rows₀ rows : List Row) (lines : List Line) → Turned count ls rows₀ rows lines → record { rows = rows; lines = lines } ≡ listed_of rows₀ count ls
+pub turned-end : (count : ℕ) (ls : List (List ℕ)) (rows₀ rows : List Row) (lines : List Said) → Turned count ls rows₀ rows lines → record { rows = rows; lines = lines } ≡ listed_of rows₀ count ls
 unfolding listed_of
 turned-end count ls rows₀ rows lines o = λ t. record { rows = o.held t; lines = o.noted t }
 
-module _ (count : ℕ) (ls : List (List ℕ)) (rows₀ rows : List Row) (lines : List Line) (i : ℕ) (l : i < length ls) (o : Turned count (take i ls) rows₀ rows lines) where
+module _ (count : ℕ) (ls : List (List ℕ)) (rows₀ rows : List Row) (lines : List Said) (i : ℕ) (l : i < length ls) (o : Turned count (take i ls) rows₀ rows lines) where
   abbrev before : List Row
   before = each (pruning count) (take i ls) rows₀
 
-  abbrev said : List Line
-  said = map line_of (told (pruning count) (prune_answers count) (take i ls) rows₀)
+  abbrev said : List Said
+  said = told (pruning count) (prune_answers count) (take i ls) rows₀
 
   said-length : length said ≡ i
-  said-length =
-      length-map (told (pruning count) (prune_answers count) (take i ls) rows₀) line_of
-      ∙ told-length (pruning count) (prune_answers count) (take i ls) rows₀
-      ∙ length-take-le i ls (omega arith)
+  said-length = told-length (pruning count) (prune_answers count) (take i ls) rows₀ ∙ length-take-le i ls (omega arith)
 
-  pub turned_more : (d is : List ℕ) → get_or ls i d ≡ is → (did : Pruned) → did ≡ pruned_of rows count is → (x : Line) → x ≡ line_of did.answer → Turned count (take (i + 1) ls) rows₀ did.rows (set lines i x)
-  turned_more d is e did f x g =
+  pub turned_more : (d is : List ℕ) → get_or ls i d ≡ is → (did : Pruned) → did ≡ pruned_of rows count is → Turned count (take (i + 1) ls) rows₀ did.rows (set lines i did.answer)
+  turned_more d is e did f =
       let done : did ≡ pruned_of before count (get_or ls i d) = f ∙ (λ t. pruned_of (o.held t) count (sym e t)) in
-      let line : line_of (pruned_of before count (get_or ls i d)).answer ≡ x = sym (g ∙ ap (λ (p : Pruned). line_of p.answer) done) in
       record {
         held = ap (λ (p : Pruned). p.rows) done ∙ sym (each_more (pruning count) ls i d rows₀ l);
-        noted = ap (λ (k : List Line). set k i x) o.noted
+        noted = ap (λ (k : List Said). set k i did.answer) o.noted
             ∙ sym
-            (ap (λ (k : List Pair). filled 16 no_line (map line_of k)) (told_more (pruning count) (prune_answers count) ls i d rows₀ l)
-            ∙ ap (filled 16 no_line) (map-append line_of (told (pruning count) (prune_answers count) (take i ls) rows₀) ((pruned_of before count (get_or ls i d)).answer ∷ []))
-            ∙ ap (λ (y : Line). filled 16 no_line (said ++ (y ∷ []))) line
-            ∙ filled_more 16 no_line said x i said-length);
+            (ap (filled 16 no_line) (told_more (pruning count) (prune_answers count) ls i d rows₀ l)
+            ∙ ap (λ (p : Pruned). filled 16 no_line (said ++ (p.answer ∷ []))) (sym done)
+            ∙ filled_more 16 no_line said did.answer i said-length);
       }
 
 -- ---- on a board

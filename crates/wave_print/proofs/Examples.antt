@@ -1,8 +1,11 @@
 -- The definitions, run. Assumes nothing.
-use Rattle.std.specs.Prelude.{◌≡◌, refl, true, false, [], ◌∷◌, pos, negsuc}
+use Rattle.std.specs.Prelude.{◌≡◌, refl, true, false, [], ◌∷◌, pos, negsuc, Result}
 use Rattle.decimal.specs.Decimal.{digits, natural, decimal}
 use Rattle.rules.specs.Board as rules
-use Rattle.sheet_form.specs.declared.Line.{Line}
+use Rattle.std.specs.declared.result.Result.TheVariants.{Ok, Err}
+use Rattle.rules.specs.declared.Pair.{Pair}
+use Rattle.rules.specs.declared.Refusal.{Refusal}
+use Rattle.rules.specs.declared.Refusal.TheVariants.{Unknown}
 use Rattle.wave_print.specs.Print.{bounds_text, row_text, pair_text, refused_text, said_text, line_text, rows_text, lines_text, printed}
 
 -- nothing registered and no lists
@@ -25,11 +28,11 @@ board =
     ∷ record { id = 23; chutes = pos 7 ∷ [] }
     ∷ []
 
-abbrev conflict : Line
-conflict = record { number = 0; place = 0; changed = true; consistent = false }
+abbrev conflict : Result Pair Refusal
+conflict = Ok (record { changed = true; consistent = false })
 
-abbrev unknown : Line
-unknown = record { number = 6; place = 1; changed = false; consistent = false }
+abbrev unknown : Result Pair Refusal
+unknown = Err (Unknown 1)
 
 -- D 20 1 1 1
 -- D 21 1 2 2

@@ -1,12 +1,15 @@
 -- How long a text can be: a caller who lends `most` bytes always has room. Assumes nothing.
-use Rattle.std.specs.Prelude.{Bool, true, false, cond, List, [], ◌∷◌, ◌++◌, ℕ, suc, ◌+◌, ◌*◌, ◌^◌, ◌≤◌, ◌<◌, T, eqb, ℤ, nat_abs, length}
+use Rattle.std.specs.Prelude.{List, [], ◌∷◌, ◌++◌, ℕ, suc, ◌+◌, ◌*◌, ◌^◌, ◌≤◌, ◌<◌, T, ℤ, nat_abs, length, Result}
 use Rattle.std.proofs.Common.{arith, length-append}
 use Rattle.decimal.specs.Decimal.{natural, decimal}
 use Rattle.decimal.proofs.Digits.{natural-few, decimal-few}
 use Rattle.rules.specs.Sets.{Chutes, has, Every, smallest, largest}
 use Rattle.rules.specs.Board as rules
 use Rattle.rules.proofs.InOrder.{smallest-has, largest-has}
-use Rattle.sheet_form.specs.declared.Line.{Line}
+use Rattle.std.specs.declared.result.Result.TheVariants.{Ok, Err}
+use Rattle.rules.specs.Refusals.{number_of, place_of}
+use Rattle.rules.specs.declared.Pair.{Pair}
+use Rattle.rules.specs.declared.Refusal.{Refusal}
 use Rattle.wave_print.specs.Print.{named, spaced, lf, bounds_text, row_text, pair_text, refused_text, said_text, line_text, rows_text, lines_text, printed, most}
 
 -- a destination whose numbers have at most ten digits, and its size three
@@ -15,10 +18,14 @@ pub record Brief (r : rules.Row) : Type 0 where
   pub size : length r.chutes < 10 ^ 3
   pub chutes : (x : ℤ) → T (has x r.chutes) → nat_abs x < 10 ^ 10
 
--- an answer whose number has one digit, and its place two
-pub record Terse (l : Line) : Type 0 where
-  pub number : l.number < 10 ^ 1
-  pub place : l.place < 10 ^ 2
+-- a refusal whose number has one digit, and its place two; of a pair nothing is asked
+pub record TerseRefusal (r : Refusal) : Type 0 where
+  pub number : number_of r < 10 ^ 1
+  pub place : place_of r < 10 ^ 2
+
+abbrev pub Terse : Result Pair Refusal → Type 0
+Terse (Ok p) = Unit
+Terse (Err r) = TerseRefusal r
 
 -- a destination's line, and a list's
 abbrev pub longest_row : ℕ
@@ -71,19 +78,16 @@ refused-few number place n p =
       natural-few 1 place p,
     )
 
-said-few : (l : Line) → Terse l → length (said_text l) ≤ 7
+said-few : (l : Result Pair Refusal) → Terse l → length (said_text l) ≤ 7
 unfolding said_text pair_text
-said-few l t = go (eqb l.number 0)
-  where
-    go : (b : Bool) → length (cond b (pair_text l.changed l.consistent) (refused_text l.number l.place)) ≤ 7
-    go true = omega arith
-    go false = refused-few l.number l.place t.number t.place
+said-few (Ok p) t = omega arith
+said-few (Err r) t = refused-few (number_of r) (place_of r) t.number t.place
 
-line-few : (index : ℕ) (l : Line) → index < 10 ^ 2 → Terse l → length (line_text index l) ≤ longest_line
+line-few : (index : ℕ) (l : Result Pair Refusal) → index < 10 ^ 2 → Terse l → length (line_text index l) ≤ longest_line
 unfolding line_text
 line-few index l i t = omega (arith, length-append (named 76 (natural index)) (spaced (said_text l)), natural-few 1 index i, said-few l t)
 
-lines-few : (index : ℕ) (ls : List Line) → index + length ls ≤ 10 ^ 2 → Every Terse ls → length (lines_text index ls) ≤ longest_line * length ls
+lines-few : (index : ℕ) (ls : List (Result Pair Refusal)) → index + length ls ≤ 10 ^ 2 → Every Terse ls → length (lines_text index ls) ≤ longest_line * length ls
 unfolding lines_text
 lines-few index [] i h = omega arith
 lines-few index (l ∷ ls) i h =
@@ -91,7 +95,7 @@ lines-few index (l ∷ ls) i h =
 
 -- ---- a board's text, and the line of a bad sheet
 
-pub printed-few : (rs : rules.Rows) (ls : List Line) → length rs ≤ 64 → length ls ≤ 16 → Every Brief rs → Every Terse ls → length (printed rs ls) ≤ most
+pub printed-few : (rs : rules.Rows) (ls : List (Result Pair Refusal)) → length rs ≤ 64 → length ls ≤ 16 → Every Brief rs → Every Terse ls → length (printed rs ls) ≤ most
 unfolding printed
 printed-few rs ls m n h k = omega (arith, length-append (rows_text rs) (lines_text 0 ls), rows_few rs h, lines-few 0 ls (omega arith) k)
 

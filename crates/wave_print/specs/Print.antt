@@ -1,9 +1,12 @@
 -- What the wave program prints, as bytes: 01, "Wave sheet". Every line ends with LF. Assumes nothing.
-use Rattle.std.specs.Prelude.{Bool, cond, List, [], ◌∷◌, ◌++◌, ℕ, suc, eqb, length}
+use Rattle.std.specs.Prelude.{Bool, cond, List, [], ◌∷◌, ◌++◌, ℕ, suc, length, Result}
 use Rattle.decimal.specs.Decimal.{natural, decimal}
 use Rattle.rules.specs.Sets.{Chutes, smallest, largest}
 use Rattle.rules.specs.Board as rules
-use Rattle.sheet_form.specs.declared.Line.{Line}
+use Rattle.std.specs.declared.result.Result.TheVariants.{Ok, Err}
+use Rattle.rules.specs.Refusals.{number_of, place_of}
+use Rattle.rules.specs.declared.Pair.{Pair}
+use Rattle.rules.specs.declared.Refusal.{Refusal}
 
 -- a word that begins a line, and one that follows another
 abbrev pub named : ℕ → List ℕ → List ℕ
@@ -36,11 +39,12 @@ unfoldable pub pair_text : Bool → Bool → List ℕ
 pair_text changed consistent = bit_text changed ∷ 32 ∷ bit_text consistent ∷ 10 ∷ []
 
 -- what a list was answered: the pair, or a refusal
-unfoldable pub said_text : Line → List ℕ
-said_text l = cond (eqb l.number 0) (pair_text l.changed l.consistent) (refused_text l.number l.place)
+unfoldable pub said_text : Result Pair Refusal → List ℕ
+said_text (Ok p) = pair_text p.changed p.consistent
+said_text (Err r) = refused_text (number_of r) (place_of r)
 
 -- `L index changed consistent`, or `L index R number place`
-unfoldable pub line_text : ℕ → Line → List ℕ
+unfoldable pub line_text : ℕ → Result Pair Refusal → List ℕ
 line_text index l = named 76 (natural index) ++ spaced (said_text l)
 
 unfoldable pub rows_text : rules.Rows → List ℕ
@@ -48,12 +52,12 @@ rows_text [] = []
 rows_text (r ∷ rs) = row_text r.id r.chutes ++ rows_text rs
 
 -- the lines from an index on
-unfoldable pub lines_text : ℕ → List Line → List ℕ
+unfoldable pub lines_text : ℕ → List (Result Pair Refusal) → List ℕ
 lines_text index [] = []
 lines_text index (l ∷ ls) = line_text index l ++ lines_text (suc index) ls
 
 -- the destinations in order of first registration, then the lists in order
-unfoldable pub printed : rules.Rows → List Line → List ℕ
+unfoldable pub printed : rules.Rows → List (Result Pair Refusal) → List ℕ
 printed rs ls = rows_text rs ++ lines_text 0 ls
 
 -- how long a board's text can be: 64 lines of at most 41 bytes, and 16 of at most 12

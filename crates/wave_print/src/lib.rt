@@ -5,17 +5,17 @@
 // The bytes must have room: no board's text is longer than `most` of specs/Print, which is `wave::MOST`.
 #![tactic(auto)]
 
-ghost use Rattle.std.specs.Prelude.{◌≡◌, ◌+◌, ◌≤◌, ◌<◌, length, take};
+ghost use Rattle.std.specs.Prelude.{◌≡◌, ◌+◌, ◌≤◌, ◌<◌, length};
 ghost use Rattle.board.specs.View.{rows_of, held_at};
 ghost use Rattle.decimal.specs.Decimal.{natural, decimal};
 ghost use Rattle.decimal.specs.Put.{put_of};
 ghost use Rattle.domain.specs.Set.{values_of, set_of};
+ghost use Rattle.rules.specs.Refusals.{number_of, place_of};
 ghost use Rattle.wave_print.specs.Print.{named, spaced, bounds_text, row_text, refused_text, pair_text, bit_text, line_text, rows_text, lines_text, printed};
 
 use board::Row;
-use domain::BitDomain;
 use mask::Mask;
-use sheet_form::Line;
+use rules::{Pair, Refusal};
 
 // A space and a number.
 fn put_spaced(n: u64, out: &mut [u8], at: usize) -> usize
@@ -62,11 +62,12 @@ fn put_bounds(min: i32, m: Mask, out: &mut [u8], at: usize) -> usize
 }
 
 // A destination's line.
-fn put_row(id: u32, d: BitDomain, out: &mut [u8], at: usize) -> usize
-    requires { at + length (row_text id (set_of d)) ≤ length out.old }
-    ensures { record { next = result; cells = out.new } ≡ put_of (row_text id (set_of d)) out.old at }
+fn put_row(row: Row, out: &mut [u8], at: usize) -> usize
+    requires { at + length (row_text row.id.0 (set_of row.domain)) ≤ length out.old }
+    ensures { record { next = result; cells = out.new } ≡ put_of (row_text row.id.0 (set_of row.domain)) out.old at }
 {
-    let named = put_named(b'D', id as u64, out, at);
+    let d = row.domain;
+    let named = put_named(b'D', u64::from(row.id.0), out, at);
     let counted = put_spaced(mask::count(d.mask) as u64, out, named);
     let end = put_bounds(d.min, d.mask, out, counted);
     out[end] = b'\n';
@@ -74,12 +75,12 @@ fn put_row(id: u32, d: BitDomain, out: &mut [u8], at: usize) -> usize
 }
 
 // The line of a refusal.
-pub fn put_refusal(number: u32, place: usize, out: &mut [u8], at: usize) -> usize
-    requires { at + length (refused_text number place) ≤ length out.old }
-    ensures { record { next = result; cells = out.new } ≡ put_of (refused_text number place) out.old at }
+pub fn put_refusal(why: Refusal, out: &mut [u8], at: usize) -> usize
+    requires { at + length (refused_text (number_of why) (place_of why)) ≤ length out.old }
+    ensures { record { next = result; cells = out.new } ≡ put_of (refused_text (number_of why) (place_of why)) out.old at }
 {
-    let named = put_named(b'R', number as u64, out, at);
-    let end = put_spaced(place as u64, out, named);
+    let named = put_named(b'R', u64::from(why.number()), out, at);
+    let end = put_spaced(why.place() as u64, out, named);
     out[end] = b'\n';
     end + 1
 }
@@ -90,71 +91,59 @@ fn bit(y: bool) -> u8
     if y { b'1' } else { b'0' }
 }
 
-fn put_pair(changed: bool, consistent: bool, out: &mut [u8], at: usize) -> usize
-    requires { at + length (pair_text changed consistent) ≤ length out.old }
-    ensures { record { next = result; cells = out.new } ≡ put_of (pair_text changed consistent) out.old at }
+fn put_pair(pair: Pair, out: &mut [u8], at: usize) -> usize
+    requires { at + length (pair_text pair.changed pair.consistent) ≤ length out.old }
+    ensures { record { next = result; cells = out.new } ≡ put_of (pair_text pair.changed pair.consistent) out.old at }
 {
-    out[at] = bit(changed);
+    out[at] = bit(pair.changed);
     out[at + 1] = b' ';
-    out[at + 2] = bit(consistent);
+    out[at + 2] = bit(pair.consistent);
     out[at + 3] = b'\n';
     at + 4
 }
 
 // A list's line.
-fn put_line(index: usize, l: Line, out: &mut [u8], at: usize) -> usize
+fn put_line(index: usize, l: Result<Pair, Refusal>, out: &mut [u8], at: usize) -> usize
     requires { at + length (line_text index l) ≤ length out.old }
     ensures { record { next = result; cells = out.new } ≡ put_of (line_text index l) out.old at }
 {
     let named = put_named(b'L', index as u64, out, at);
     out[named] = b' ';
-    if l.number == 0 {
-        return put_pair(l.changed, l.consistent, out, named + 1);
+    match l {
+        Ok(pair) => put_pair(pair, out, named + 1),
+        Err(why) => put_refusal(why, out, named + 1),
     }
-    put_refusal(l.number, l.place, out, named + 1)
 }
 
 // The destinations' lines at the start.
-fn put_rows(rows: [Row; 64], count: usize, out: &mut [u8]) -> usize
-    requires { (count ≤ 64) × (length (rows_text (rows_of rows count (held_at rows))) ≤ length out.old) }
-    ensures { record { next = result; cells = out.new } ≡ put_of (rows_text (rows_of rows count (held_at rows))) out.old 0 }
+fn put_rows(rows: &[Row], out: &mut [u8]) -> usize
+    requires { length (rows_text (rows_of rows.now (length rows.now) (held_at rows.now))) ≤ length out.old }
+    ensures { record { next = result; cells = out.new } ≡ put_of (rows_text (rows_of rows.now (length rows.now) (held_at rows.now))) out.old 0 }
 {
     let mut at = 0;
-    let mut i = 0;
-    while i < count {
-        let row = rows[i];
-        at = put_row(row.id.0, row.domain, out, at);
-        i += 1;
+    for row in rows {
+        at = put_row(*row, out, at);
     }
     at
 }
 
 // The lists' lines from `start` on.
-fn put_lines(lines: [Line; 16], ln: usize, out: &mut [u8], start: usize) -> usize
-    requires { (ln ≤ 16) × (start + length (lines_text 0 (take ln lines)) ≤ length out.old) }
-    ensures { record { next = result; cells = out.new } ≡ put_of (lines_text 0 (take ln lines)) out.old start }
+fn put_lines(lines: &[Result<Pair, Refusal>], out: &mut [u8], start: usize) -> usize
+    requires { start + length (lines_text 0 lines.now) ≤ length out.old }
+    ensures { record { next = result; cells = out.new } ≡ put_of (lines_text 0 lines.now) out.old start }
 {
     let mut at = start;
-    let mut i = 0;
-    while i < ln {
-        let line = lines[i];
-        at = put_line(i, line, out, at);
-        i += 1;
+    for (i, line) in lines.iter().enumerate() {
+        at = put_line(i, *line, out, at);
     }
     at
 }
 
 // The board's text at the start, and how long it is.
-pub fn put_board(
-    rows: [Row; 64],
-    count: usize,
-    lines: [Line; 16],
-    ln: usize,
-    out: &mut [u8],
-) -> usize
-    requires { (count ≤ 64) × (ln ≤ 16) × (length (printed (rows_of rows count (held_at rows)) (take ln lines)) ≤ length out.old) }
-    ensures { record { next = result; cells = out.new } ≡ put_of (printed (rows_of rows count (held_at rows)) (take ln lines)) out.old 0 }
+pub fn put_board(rows: &[Row], lines: &[Result<Pair, Refusal>], out: &mut [u8]) -> usize
+    requires { length (printed (rows_of rows.now (length rows.now) (held_at rows.now)) lines.now) ≤ length out.old }
+    ensures { record { next = result; cells = out.new } ≡ put_of (printed (rows_of rows.now (length rows.now) (held_at rows.now)) lines.now) out.old 0 }
 {
-    let at = put_rows(rows, count, out);
-    put_lines(lines, ln, out, at)
+    let at = put_rows(rows, out);
+    put_lines(lines, out, at)
 }

@@ -7,33 +7,13 @@
 
 ghost use Rattle.std.specs.Prelude.{◌≡◌, ◌+◌, ◌≤◌, length};
 
-use domain::Counted;
 use probe_parts::wire;
 
 // What the lent bytes hold before a call.
 const FILL: u8 = 165;
 
-const REFUSED: u64 = 18446744073709551615;
-
-const HALF: u64 = 4294967296;
-
-fn fill(out: &mut [u8], from: usize, to: usize)
-    requires { (from ≤ to) × (to ≤ length out.old) }
-    ensures { length out.new ≡ length out.old }
-{
-    let mut i = from;
-    while i < to {
-        out[i] = FILL;
-        i += 1;
-    }
-}
-
-fn said(c: Counted) -> u64 {
-    match c {
-        Counted::Count(n) => n as u64,
-        Counted::Refused(_) => REFUSED,
-    }
-}
+// What is said of a refused sheet.
+const REFUSED: u64 = u64::MAX;
 
 // Lends `room` bytes behind the place of the answer. The eight past them are filled too, so that it shows if the call writes them.
 fn answer(sheet: &[u8], out: &mut [u8], at: usize, room: usize)
@@ -42,9 +22,9 @@ fn answer(sheet: &[u8], out: &mut [u8], at: usize, room: usize)
 {
     let from = at + 8;
     let to = from + room;
-    fill(out, from, to + 8);
-    let c = wave::wave(sheet, &mut out[from..to]);
-    wire::put_word(out, at, said(c));
+    out[from..to + 8].fill(FILL);
+    let said = wave::wave(sheet, &mut out[from..to]).map_or(REFUSED, |n| n as u64);
+    wire::put_word(out, at, said);
 }
 
 // Runs the script's sheets as far as `out` has room, and answers how many bytes were written. A record is a word, of which the low half is the
@@ -57,8 +37,8 @@ pub fn probe_wave(script: &[u8], out: &mut [u8]) -> usize
     let mut to = 0;
     while 8 <= script.len() - at {
         let head = wire::word(script, at);
-        let len = (head % HALF) as usize;
-        let room = (head / HALF) as usize;
+        let len = wire::half(head) as usize;
+        let room = (head >> 32) as usize;
         let from = at + 8;
         if script.len() - from < len {
             return to;
@@ -75,8 +55,5 @@ pub fn probe_wave(script: &[u8], out: &mut [u8]) -> usize
 }
 
 pub fn bench_wave(sheet: &[u8], out: &mut [u8]) -> usize {
-    match wave::wave(sheet, out) {
-        Counted::Count(n) => n,
-        Counted::Refused(_) => 0,
-    }
+    wave::wave(sheet, out).unwrap_or(0)
 }

@@ -10,22 +10,20 @@ ghost use Rattle.wave_form.specs.Wave.{ran_of, sheet_of};
 
 use sheet_form::Parsed;
 use wave_form::Ran;
-use wave_lists::least;
 
 pub fn run(p: Parsed) -> Ran
     ensures { result ≡ ran_of (sheet_of p) }
 {
-    let destinations = p.destinations;
-    let closings = p.closings;
-    let lists = p.lists;
+    let destinations = p.destinations.rows;
+    let closings = p.closings.rows;
+    let lists = p.lists.rows;
     let ids = p.ids;
-    let ln = least(p.ln, 16);
-    let registered = wave_enter::register(destinations, least(p.dn, 64));
-    let rows = registered.rows;
+    let ln = p.lists.count.min(16);
+    let registered = wave_enter::register(&destinations[..p.destinations.count.min(64)]);
+    let mut rows = registered.rows;
     let count = registered.count;
-    let closed = batch::inner::close_rows(rows, count, closings, least(p.cn, 256));
-    let rows = closed.rows;
-    let listed = wave_lists::spread(rows, count, lists, ln, &ids);
+    batch::inner::close_each(&mut rows, count, &closings[..p.closings.count.min(256)]);
+    let listed = wave_lists::spread(rows, count, &lists[..ln], &ids);
     let rows = listed.rows;
     let lines = listed.lines;
     Ran {

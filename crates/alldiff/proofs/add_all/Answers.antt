@@ -15,7 +15,7 @@ use Rattle.domain.specs.Set.{values_of}
 use Rattle.alldiff.specs.Gather.{add_to}
 use Rattle.alldiff.proofs.Gathers.{add-seen, add-new, add-end, longer}
 use Rattle.alldiff.proofs.add_all.Goals as goal
-use Rattle.alldiff.proofs.add_all.Goals.{then-not-seen+else-at-most, else-not-seen}
+use Rattle.alldiff.proofs.add_all.Goals.{then-not-seen+else-at-vals, else-not-seen}
 
 -- the lowest value of what is left
 value-is : (z : ℤ) (k : ℕ) (r : ℤ) → r ≡ to_z w32 (of_z w32 z) +ℤ pos k → SFits w32 r → to_z w32 (of_z w32 r) ≡ to_z w32 (of_z w32 z) +ℤ pos k
@@ -38,7 +38,7 @@ module _ (all : Chutes) (vals : List ℤ) (at : ℕ) (h : at ≤ length vals) (l
       omega (arith, longer (take at vals) x (values_of lo rest) n t, ap length so)
 
 pub loop-rest-init : goal.loop-rest-init
-loop-rest-init c = (search rules, search rules, refl, λ k h. subst (λ (z : ℤ). SFits w32 (z +ℤ pos k)) (sym (read32 {z = c.args.min} c.ranges.min)) (c.requires.3 k h))
+loop-rest-init c = (search rules, refl, λ k h. subst (λ (z : ℤ). SFits w32 (z +ℤ pos k)) (sym (read32 {z = c.args.min} c.ranges.min)) (c.requires.1 k h))
 
 pub lowest-requires : goal.lowest-requires
 lowest-requires c =
@@ -46,22 +46,18 @@ lowest-requires c =
     pos-of-ne v (eqb-false v 0 (sym c.is_none.ensures ∙ c.loop-rest-test.true))
 
 pub value-x-requires : goal.value-x-requires
-value-x-requires c = c.loop-rest.invariant.3 c.lowest.result c.lowest.ensures.0.set
+value-x-requires c = c.loop-rest.invariant.2 c.lowest.result c.lowest.ensures.0.set
 
-pub returns-then-at-most : goal.returns-then-at-most
-returns-then-at-most c =
+pub returns-then-at-vals : goal.returns-then-at-vals
+returns-then-at-vals c =
     let a = c.args in
     let i = c.loop-rest in
     let z = to_z w32 (of_z w32 a.min) in
     let x = to_z w32 (of_z w32 c.value-x.result) in
-    let n = c.if-not-seen.true in
-    let l = more (add_to (take a.r a.vals.now) (values_of z a.m)) i.vals i.at (omega arith) z i.rest i.invariant.2 c.lowest.result c.lowest.ensures.0 x (value-is a.min c.lowest.result c.value-x.result c.value-x.ensures (search rules)) (sym c.seen.ensures ∙ n) in
-    let g : a.most < length (add_to (take a.r a.vals.now) (values_of z a.m)) = omega arith in
-    record {
-      room = i.invariant.1;
-      few = λ h. absurd (omega arith);
-      many = λ h. subst (λ (y : ℤ). a.most < length (add_to (take a.r a.vals.now) (values_of y a.m))) (read32 c.ranges.min) g;
-    }
+    let all = add_to (take a.r a.vals.now) (values_of z a.m) in
+    let l = more all i.vals i.at (omega arith) z i.rest i.invariant.1 c.lowest.result c.lowest.ensures.0 x (value-is a.min c.lowest.result c.value-x.result c.value-x.ensures (search rules)) (sym c.seen.ensures ∙ c.if-not-seen.true) in
+    let g : length i.vals < length all = omega arith in
+    subst (λ (y : ℤ). length i.vals < length (add_to (take a.r a.vals.now) (values_of y a.m))) (read32 c.ranges.min) g
 
 pub rest-rest-requires : goal.rest-rest-requires
 rest-rest-requires c =
@@ -84,20 +80,18 @@ loop-rest-preserved c =
     let all = add_to (take a.r a.vals.now) (values_of z a.m) in
     let q = value-is a.min k c.value-x.result c.value-x.ensures (search rules) in
     let r = c.rest-rest.ensures k c.lowest.ensures.0 in
-    let held : (m : ℕ) → In (val c.rest-rest.result) m → SFits w32 (z +ℤ pos m) = λ m h. i.invariant.3 m ((in_without (val i.rest) k m).0 (subst (λ (n : ℕ). In n m) r h)).0 in
+    let held : (m : ℕ) → In (val c.rest-rest.result) m → SFits w32 (z +ℤ pos m) = λ m h. i.invariant.2 m ((in_without (val i.rest) k m).0 (subst (λ (n : ℕ). In n m) r h)).0 in
     elim c.if-not-seen.branch [
-      | then-not-seen+else-at-most w ↦
+      | then-not-seen+else-at-vals w ↦
           rw (w.vals-is, w.at-is, add-one) (
-            search rules,
-            length-set i.vals i.at x ∙ i.invariant.1,
-            joins all i.vals i.at (omega arith) z i.rest i.invariant.2 k c.lowest.ensures.0 x q (omega arith) c.rest-rest.result r (sym c.seen.ensures ∙ w.if-not-seen.true),
+            omega (arith, length-set i.vals i.at x),
+            joins all i.vals i.at (omega arith) z i.rest i.invariant.1 k c.lowest.ensures.0 x q (omega arith) c.rest-rest.result r (sym c.seen.ensures ∙ w.if-not-seen.true),
             held,
           )
       | else-not-seen w ↦
           rw (w.vals-is, w.at-is) (
-            search rules,
-            i.invariant.1,
-            stays all i.vals i.at (omega arith) z i.rest i.invariant.2 k c.lowest.ensures.0 x q c.rest-rest.result r (sym c.seen.ensures ∙ w.if-not-seen.false),
+            i.invariant.0,
+            stays all i.vals i.at (omega arith) z i.rest i.invariant.1 k c.lowest.ensures.0 x q c.rest-rest.result r (sym c.seen.ensures ∙ w.if-not-seen.false),
             held,
           )
     ]
@@ -108,9 +102,5 @@ returns c =
     let i = c.loop-rest in
     let z = to_z w32 (of_z w32 a.min) in
     let e = eqb-true (val i.rest) 0 (sym c.is_none.ensures ∙ c.loop-rest-test.false) in
-    let so = i.invariant.2 ∙ add-end (take i.at i.vals) z i.rest e in
-    record {
-      room = i.invariant.1;
-      few = λ h. subst (λ (y : ℤ). take i.at i.vals ≡ add_to (take a.r a.vals.now) (values_of y a.m)) (read32 c.ranges.min) (sym so);
-      many = λ h. absurd (omega arith);
-    }
+    let so = i.invariant.1 ∙ add-end (take i.at i.vals) z i.rest e in
+    (i.invariant.0, subst (λ (y : ℤ). take i.at i.vals ≡ add_to (take a.r a.vals.now) (values_of y a.m)) (read32 c.ranges.min) (sym so))

@@ -9,7 +9,7 @@ use Rattle.alldiff.specs.Gather.{add_to}
 use Rattle.alldiff.proofs.add_all.Given as goal
 
 abbrev pub invariant-loop-rest : goal.invariant-loop-rest
-invariant-loop-rest l = (l.at ≤ l.most) × (length l.vals ≡ 4) × (add_to (take l.r l.initial.vals) (values_of l.min l.initial.rest) ≡ add_to (take l.at l.vals) (values_of l.min l.rest)) × ((k : ℕ) → In (val l.rest) k → SFits w32 (l.min +ℤ pos k))
+invariant-loop-rest l = (l.at ≤ length l.vals) × (add_to (take l.r l.initial.vals) (values_of l.min l.initial.rest) ≡ add_to (take l.at l.vals) (values_of l.min l.rest)) × ((k : ℕ) → In (val l.rest) k → SFits w32 (l.min +ℤ pos k))
 
 abbrev pub decreases-loop-rest : goal.decreases-loop-rest
 decreases-loop-rest l = ones (val l.rest)

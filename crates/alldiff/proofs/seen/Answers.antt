@@ -1,44 +1,27 @@
--- `alldiff::seen` meets its contract: it is asked of value after value. Assumes nothing.
-use Rattle.std.specs.Prelude.{◌≡◌, refl, true, false, ◌||◌, List, ℕ, ◌+◌, ◌<◌, ◌≤◌, T, ℤ, pos, length, take, drop, get_or}
+-- `alldiff::seen` meets its contract: the library's equality of two values is the rules'. Assumes nothing.
+use Rattle.std.specs.Prelude.{◌≡◌, refl, ◌||◌, List, [], ◌∷◌, T, ℤ}
+use Rattle.std.specs.List.{list_any}
+use Rattle.std.specs.Ordering.{int_eq}
 use Rattle.std.specs.Int.{w32}
-use Rattle.std.proofs.Common.{rules, sym, ap, ◌∙◌, subst, add-one, arith, drop_of_length-le, length-take, drop-cons, to_z, of_z}
-use lib.Seq.{get_or-take}
-use Rattle.domain.proofs.Signed.{bits-inj}
-use Rattle.rules.proofs.Tests.{is_true, is_false}
-use Rattle.rules.proofs.SetLaws.{same→eq, same_refl}
+use Rattle.std.proofs.Common.{sym, ap, ◌∙◌, subst, to_z, of_z}
+use Rattle.std.proofs.lemmas.Bool.Decides.{Decides-int_eq}
+use Rattle.mask.specs.Tests.{same_test}
 use Rattle.offset.specs.Wide.{read32}
 use Rattle.rules.specs.Sets.{has, same}
+use Rattle.rules.proofs.Tests.{is_true, true-is}
+use Rattle.rules.proofs.SetLaws.{same→eq, same_refl}
 use Rattle.alldiff.proofs.seen.Goals as goal
 
--- the value at place j of the first r, and those after it
-turn : (vals : List ℤ) (r j : ℕ) (x : ℤ) → j < r → r ≤ length vals → has x (drop j (take r vals)) ≡ same x (get_or vals j (pos 0)) || has x (drop (j + 1) (take r vals))
-turn vals r j x h l =
-    let i : j < length (take r vals) = simp length-take (omega arith) in
-    rw (add-one, drop-cons (take r vals) j (pos 0) i, get_or-take r vals j (pos 0) h)
+equal : (x y : ℤ) → int_eq y x ≡ same x y
+equal x y =
+    let d = Decides-int_eq y x in
+    same_test (int_eq y x) (same x y) (λ t. is_true (same x y) (subst (λ (z : ℤ). T (same x z)) (sym (d.0 t)) (same_refl x))) (λ t. d.1 (sym (same→eq x y (true-is t))))
 
-pub loop-j-init : goal.loop-j-init
-loop-j-init c = (search rules, refl)
-
-pub returns-then-vals-j : goal.returns-then-vals-j
-returns-then-vals-j c =
-    let a = c.args in
-    let x = to_z w32 (of_z w32 a.x) in
-    let y = get_or a.vals.now c.loop-j.j (pos 0) in
-    let e : x ≡ y = read32 c.ranges.x ∙ sym (bits-inj y a.x (search rules) c.ranges.x c.if-vals-j.true) in
-    let t = c.loop-j.invariant.1 ∙ turn a.vals.now a.r c.loop-j.j x (search rules) (omega arith) in
-    let s : same x y ≡ true = is_true (same x y) (subst (λ (z : ℤ). T (same x z)) e (same_refl x)) in
-    sym (subst (λ (z : ℤ). has z (take a.r a.vals.now) ≡ true) (read32 {z = a.x} c.ranges.x) (t ∙ rw s))
-
-pub loop-j-preserved : goal.loop-j-preserved
-loop-j-preserved c =
-    let a = c.args in
-    let x = to_z w32 (of_z w32 a.x) in
-    let y = get_or a.vals.now c.loop-j.j (pos 0) in
-    let s : same x y ≡ false = is_false (same x y) (λ t. c.if-vals-j.false (ap (of_z w32) (sym (same→eq x y t) ∙ read32 c.ranges.x))) in
-    (search rules, c.loop-j.invariant.1 ∙ turn a.vals.now a.r c.loop-j.j x (search rules) (omega arith) ∙ rw s)
+any-has : (x : ℤ) (vals : List ℤ) → list_any (λ y. int_eq y x) vals ≡ has x vals
+any-has x [] = refl
+any-has x (y ∷ s) = λ i. equal x y i || any-has x s i
 
 pub returns : goal.returns
 returns c =
     let a = c.args in
-    let l : length (take a.r a.vals.now) ≤ c.loop-j.j = simp length-take (omega arith) in
-    sym (subst (λ (z : ℤ). has z (take a.r a.vals.now) ≡ false) (read32 {z = a.x} c.ranges.x) (c.loop-j.invariant.1 ∙ rw (drop_of_length-le (take a.r a.vals.now) l)))
+    c.contains.ensures.value ∙ any-has (to_z w32 (of_z w32 a.x)) a.vals.now ∙ ap (λ (z : ℤ). has z a.vals.now) (read32 {z = a.x} c.ranges.x)

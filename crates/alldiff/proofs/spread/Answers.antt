@@ -1,13 +1,13 @@
 -- `alldiff::spread` meets its contract: it is step 1, and then step 2 for a short list. Assumes nothing.
-use Rattle.std.specs.Prelude.{Bool, true, ◌<◌, length}
-use Rattle.std.proofs.Common.{sym, ap, ◌∙◌, arith, rules}
+use Rattle.std.specs.Prelude.{◌≡◌, ◌<◌, length}
+use Rattle.std.proofs.Common.{sym, arith}
 use Rattle.std.proofs.lemmas.Bool.{not-true, not-false}
-use Rattle.rules.proofs.Tests.{or-false}
-use Rattle.rules.specs.Pass.{still}
+use Rattle.rules.specs.Pass.{pass}
 use Rattle.sweep.specs.Listed.{listed, swept}
 use Rattle.sweep.proofs.Turns.{listed-length, left-none, left-then}
-use Rattle.alldiff.proofs.Whole.{short, raised, stopped, both, long-list}
+use Rattle.alldiff.proofs.Whole.{short, raised, stopped, both, long-stays}
 use Rattle.alldiff.proofs.spread.Goals as goal
+use Rattle.alldiff.proofs.spread.Goals.{then-not-one-via-then-not-one, then-not-one-via-else-not-one+then-n-gt6}
 
 pub returns-then-n-le1 : goal.returns-then-n-le1
 returns-then-n-le1 c =
@@ -16,41 +16,20 @@ returns-then-n-le1 c =
     let w = short ds (omega (arith, listed-length a.mins.now a.ms.now a.n)) in
     (left-none a.n a.ms.now c.requires.1, sym w.0, sym w.1)
 
-pub step_one-one-requires : goal.step_one-one-requires
-step_one-one-requires c = c.requires
-
 pub returns-then-not-one : goal.returns-then-not-one
 returns-then-not-one c =
     let a = c.args in
     let r = c.step_one-one in
     let ds = listed a.mins.now a.ms.now a.n in
-    let l : 1 < length ds = omega (arith, listed-length a.mins.now a.ms.now a.n) in
-    let one = swept r.result (listed a.mins.now r.new.ms a.n) in
-    let e = not-true r.result.consistent c.if-not-one.true in (
-      r.ensures.0,
-      ap (λ (b : Bool). record { domains = one.domains; changed = one.changed; consistent = b }) (sym e) ∙ sym (stopped ds l one r.ensures.1 e),
-      sym (raised ds l one r.ensures.1),
-    )
-
-pub returns-then-n-gt6 : goal.returns-then-n-gt6
-returns-then-n-gt6 c =
-    let a = c.args in
-    let r = c.step_one-one in
-    let ds = listed a.mins.now a.ms.now a.n in
-    let l : 1 < length ds = omega (arith, listed-length a.mins.now a.ms.now a.n) in
     let es = listed a.mins.now r.new.ms a.n in
+    let l : 1 < length ds = omega (arith, listed-length a.mins.now a.ms.now a.n) in
     let one = swept r.result es in
-    let e = not-false r.result.consistent c.if-not-one.false in
-    let m : 6 < length es = omega (arith, listed-length a.mins.now r.new.ms a.n) in (
-      r.ensures.0,
-      sym (both ds l one r.ensures.1 e (still es) (sym (long-list es m)) ∙ ap (λ (b : Bool). record { domains = es; changed = b; consistent = true }) (or-false r.result.changed)),
-      sym (raised ds l one r.ensures.1),
-    )
-
-pub step_two-two-requires : goal.step_two-two-requires
-step_two-two-requires c =
-    let r = c.step_one-one.ensures.0 in
-    (search rules, r.room, λ p k h i. c.requires.2 p k h (r.fewer p k i))
+    let e : pass ds ≡ one = elim c.then-not-one.branch [
+      | then-not-one-via-then-not-one w ↦ stopped ds l one r.ensures.1 (not-true r.result.consistent w.if-not-one.true)
+      | then-not-one-via-else-not-one+then-n-gt6 w ↦
+          long-stays ds l one r.ensures.1 (not-false r.result.consistent w.if-not-one.false) (omega (arith, listed-length a.mins.now r.new.ms a.n))
+    ] in
+    (r.ensures.0, sym e, sym (raised ds l one r.ensures.1))
 
 pub returns : goal.returns
 returns c =

@@ -13,17 +13,17 @@ use Rattle.alldiff.proofs.step_one.Goals as goal
 pub returns-then-is_none : goal.returns-then-is_none
 returns-then-is_none c =
     let a = c.args in
-    let found : Fixing a.ms.now a.n (val c.fixed-found.result.values) = c.fixed-found.ensures (not-false c.fixed-found.result.apart c.if-not-found.false) in (
+    let found : Fixing a.ms.now a.n (val c.in-Some.values) = c.in-Some.ensures in (
       left-none a.n a.ms.now c.requires.1,
-      sym (no-values a.mins.now a.ms.now a.n c.fixed-found.result.values found (eqb-true (val c.fixed-found.result.values) 0 (sym c.is_none.ensures ∙ c.if-is_none.true))),
+      sym (no-values a.mins.now a.ms.now a.n c.in-Some.values found (eqb-true (val c.in-Some.values) 0 (sym c.is_none.ensures ∙ c.if-is_none.true))),
     )
 
 pub returns-then-did : goal.returns-then-did
 returns-then-did c =
     let d = c.strike_unassigned-did in
     let a = c.args in
-    let found : Fixing a.ms.now a.n (val c.fixed-found.result.values) = c.fixed-found.ensures (not-false c.fixed-found.result.apart c.if-not-found.false) in
+    let found : Fixing a.ms.now a.n (val c.in-Some.values) = c.in-Some.ensures in
     let level = c.is_level.ensures (not-false c.is_level.result (ap not c.if-not-is_level.false)) in
     let lo = get_or a.mins.now 0 (pos 0) in
     let struck = d.ensures.1 a.mins.now lo level in
-    (d.ensures.0, struck ∙ sym (at_once a.mins.now a.ms.now a.n c.fixed-found.result.values found lo level (ap (λ (r : Swept). r.consistent) (sym struck) ∙ c.if-did.true)))
+    (d.ensures.0, struck ∙ sym (at_once a.mins.now a.ms.now a.n c.in-Some.values found lo level (ap (λ (r : Swept). r.consistent) (sym struck) ∙ c.if-did.true)))

@@ -1,14 +1,11 @@
-use Rattle.std.specs.Prelude.{◌≡◌, ◌<◌, ◌≤◌, ◌-◌, drop}
+use Rattle.std.specs.Prelude.{◌≡◌, ◌-◌, drop}
 use Rattle.rules.specs.Pass.{chain, step2}
 use Rattle.rules.specs.Table.{table}
 use Rattle.sweep.specs.Listed.{listed, Left}
-use Rattle.alldiff.specs.Choice.{Few, Within}
+use Rattle.alldiff.specs.Choice.{Few}
 use Rattle.alldiff.proofs.Chains.{further}
 use Rattle.alldiff.proofs.StepTwo.{entry}
 use Rattle.alldiff.proofs.step_two.Given as goal
 
 abbrev pub invariant-loop-t : goal.invariant-loop-t
-invariant-loop-t l = (l.t ≤ 50) × Left l.n l.initial.ms l.ms × Few l.ms l.n l.fit × (l.t < 50 → Within l.fit l.t) × (step2 (listed l.mins l.initial.ms l.n) ≡ further l.changed (chain (entry l.n) (drop l.t table) (listed l.mins l.ms l.n)))
-
-abbrev pub decreases-loop-t : goal.decreases-loop-t
-decreases-loop-t l = 50 - l.t
+invariant-loop-t l = Left l.n l.initial.ms l.ms × Few l.ms l.n (255 - l.other) × (step2 (listed l.mins l.initial.ms l.n) ≡ further l.changed (chain (entry l.n) (drop l.t table) (listed l.mins l.ms l.n)))

@@ -1,9 +1,6 @@
-use Rattle.std.specs.Prelude.{◌≡◌, ◌-◌, ◌≤◌, length, take}
+use Rattle.std.specs.Prelude.{◌≡◌, length, take}
 use Rattle.batch_runs.specs.Runs.{closings_of}
 use Rattle.batch_runs.proofs.gather.Given as goal
 
 abbrev pub invariant-loop-i : goal.invariant-loop-i
-invariant-loop-i l = (l.i ≤ l.n) × (length l.cs ≡ 256) × (take l.i l.cs ≡ take l.i (closings_of l.kinds l.ids l.values))
-
-abbrev pub decreases-loop-i : goal.decreases-loop-i
-decreases-loop-i l = l.n - l.i
+invariant-loop-i l = (length l.cs ≡ 256) × (take l.i l.cs ≡ take l.i (closings_of l.kinds l.ids l.values))

@@ -1,9 +1,6 @@
-use Rattle.std.specs.Prelude.{◌≡◌, ◌≤◌, get_or}
+use Rattle.std.specs.Prelude.{◌≡◌, get_or}
 use Rattle.board.specs.Rows.{seat_in}
 use Rattle.board_list.proofs.find.Given as goal
 
 abbrev pub invariant-loop-i : goal.invariant-loop-i
-invariant-loop-i l = (l.i ≤ l.count) × (seat_in (λ j. get_or l.ids j 0) l.i l.id ≡ seat_in (λ j. get_or l.ids j 0) l.count l.id)
-
-abbrev pub decreases-loop-i : goal.decreases-loop-i
-decreases-loop-i l = l.i
+invariant-loop-i l = seat_in (λ j. get_or l.ids j 0) l.i l.id ≡ seat_in (λ j. get_or l.ids j 0) l.count l.id

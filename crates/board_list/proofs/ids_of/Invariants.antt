@@ -1,10 +1,7 @@
-use Rattle.std.specs.Prelude.{◌≡◌, ◌-◌, ◌≤◌, length}
+use Rattle.std.specs.Prelude.{◌≡◌, length}
 use Rattle.board.specs.Rows.{id_at}
 use Rattle.board_list.specs.Places.{Begins}
 use Rattle.board_list.proofs.ids_of.Given as goal
 
 abbrev pub invariant-loop-i : goal.invariant-loop-i
-invariant-loop-i l = (l.i ≤ l.count) × (length l.ids ≡ 64) × Begins (id_at l.rows) l.i l.ids
-
-abbrev pub decreases-loop-i : goal.decreases-loop-i
-decreases-loop-i l = l.count - l.i
+invariant-loop-i l = (length l.ids ≡ 64) × Begins (id_at l.rows) l.i l.ids

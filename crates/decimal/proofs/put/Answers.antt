@@ -13,27 +13,27 @@ bounds-out-at c =
 
 pub put_natural-requires : goal.put_natural-requires
 put_natural-requires c =
-    let m = c.magnitude in
-    simp length-set (omega (arith, c.requires, ap length (decimal-neg c.args.x m.result c.ranges.x c.if-x-lt0.true m.ensures)))
+    let m = c.unsigned_abs in
+    simp length-set (omega (arith, c.requires, ap length (decimal-neg c.args.x m.result c.ranges.x c.if-x-lt0.true m.ensures.value)))
 
 pub put_natural-requires-else-x-lt0 : goal.put_natural-requires-else-x-lt0
 put_natural-requires-else-x-lt0 c =
-    let m = c.magnitude-else-x-lt0 in
-    omega (arith, c.requires, ap length (decimal-pos c.args.x m.result c.ranges.x c.if-x-lt0.false m.ensures))
+    let m = c.unsigned_abs-else-x-lt0 in
+    omega (arith, c.requires, ap length (decimal-pos c.args.x m.result c.ranges.x c.if-x-lt0.false m.ensures.value))
 
 pub shape_of-out-then-x-lt0 : goal.shape_of-out-then-x-lt0
 shape_of-out-then-x-lt0 c = simp length-set at c.put_natural.auto.out
 
 pub returns-then-x-lt0 : goal.returns-then-x-lt0
 returns-then-x-lt0 c =
-    let m = c.magnitude in
-    let e = decimal-neg c.args.x m.result c.ranges.x c.if-x-lt0.true m.ensures in
+    let m = c.unsigned_abs in
+    let e = decimal-neg c.args.x m.result c.ranges.x c.if-x-lt0.true m.ensures.value in
     c.put_natural.ensures
     ∙ put-more (45 ∷ []) (natural m.result) c.args.out.now c.args.at (put_byte 45 c.args.out.now c.args.at)
     ∙ ap (λ (t : List ℕ). put_of t c.args.out.now c.args.at) (sym e)
 
 pub returns-else-x-lt0 : goal.returns-else-x-lt0
 returns-else-x-lt0 c =
-    let m = c.magnitude-else-x-lt0 in
-    let e = decimal-pos c.args.x m.result c.ranges.x c.if-x-lt0.false m.ensures in
+    let m = c.unsigned_abs-else-x-lt0 in
+    let e = decimal-pos c.args.x m.result c.ranges.x c.if-x-lt0.false m.ensures.value in
     c.put_natural-else-x-lt0.ensures ∙ ap (λ (t : List ℕ). put_of t c.args.out.now c.args.at) (sym e)

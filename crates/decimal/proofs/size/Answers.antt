@@ -6,15 +6,14 @@ use Rattle.decimal.proofs.Signs.{decimal-neg, decimal-pos}
 use Rattle.decimal.proofs.size.Goals as goal
 
 pub overflow_add-result : goal.overflow_add-result
-overflow_add-result c =
-    omega (arith, c.size_natural.ensures, natural-few 19 c.magnitude.result (search rules))
+overflow_add-result c = omega (arith, c.size_natural-digits.ensures, natural-few 19 c.unsigned_abs.result (search rules))
 
 pub returns-then-x-lt0 : goal.returns-then-x-lt0
 returns-then-x-lt0 c =
-    let m = c.magnitude in
-    omega (arith, c.size_natural.ensures, ap length (decimal-neg c.args.x m.result c.ranges.x c.if-x-lt0.true m.ensures))
+    let m = c.unsigned_abs in
+    omega (arith, c.size_natural-digits.ensures, ap length (decimal-neg c.args.x m.result c.ranges.x c.if-x-lt0.true m.ensures.value))
 
 pub returns-else-x-lt0 : goal.returns-else-x-lt0
 returns-else-x-lt0 c =
-    let m = c.magnitude-else-x-lt0 in
-    omega (arith, c.size_natural-else-x-lt0.ensures, ap length (decimal-pos c.args.x m.result c.ranges.x c.if-x-lt0.false m.ensures))
+    let m = c.unsigned_abs in
+    omega (arith, c.size_natural-digits.ensures, ap length (decimal-pos c.args.x m.result c.ranges.x c.if-x-lt0.false m.ensures.value))

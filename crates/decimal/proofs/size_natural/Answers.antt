@@ -1,22 +1,12 @@
--- `decimal::size_natural` meets its contract: the digits counted and those of what is left are one more than those of n, and what is left last is one digit.
-use Rattle.std.specs.Prelude.{length}
-use Rattle.std.proofs.Common.{ap, arith}
-use Rattle.decimal.proofs.Digits.{natural-small, size_step, natural-few, natural-some}
+-- `decimal::size_natural` meets its contract: the logarithm of n, or of 1 in the place of 0, is one digit fewer. Assumes nothing.
+use Rattle.std.specs.Prelude.{◌≤◌, ◌<◌, ◌*◌, ◌^◌, ℕ}
+use Rattle.std.proofs.Common.{sym, subst}
+use Rattle.decimal.proofs.Digits.{natural-size}
 use Rattle.decimal.proofs.size_natural.Goals as goal
 
-pub loop-left-init : goal.loop-left-init
-loop-left-init c = omega arith
-
-pub overflow_add-digits : goal.overflow_add-digits
-overflow_add-digits c =
-    let s = c.loop-left in
-    omega (arith, s.invariant, natural-some s.left, natural-few 19 c.args.n (omega arith))
-
-pub loop-left-smaller : goal.loop-left-smaller
-loop-left-smaller c = omega arith
-
-pub loop-left-preserved : goal.loop-left-preserved
-loop-left-preserved c = let s = c.loop-left in omega (arith, s.invariant, size_step s.left (omega arith))
-
 pub returns : goal.returns
-returns c = let s = c.loop-left in omega (arith, s.invariant, ap length (natural-small s.left (omega arith)))
+returns c =
+    let k = c.ilog10.result in
+    sym (natural-size k c.args.n
+    (subst (λ (m : ℕ). 10 ^ k ≤ m) c.max.ensures c.ilog10.ensures.power_le)
+    (subst (λ (m : ℕ). m < 10 * 10 ^ k) c.max.ensures c.ilog10.ensures.next_power_gt))

@@ -35,13 +35,13 @@ pub overflow_add-result : goal.overflow_add-result
 overflow_add-result c = let k = counts c in omega arith
 
 pub overflow_add-result-2 : goal.overflow_add-result-2
-overflow_add-result-2 c = let k = counts c.before in omega (arith, c.commas.ensures)
+overflow_add-result-2 c = let k = counts c.before in omega (arith, c.saturating_sub.ensures)
 
 pub overflow_sub-n : goal.overflow_sub-n
 overflow_sub-n c = let k = counts c.before.before in omega arith
 
 pub overflow_add-result-3 : goal.overflow_add-result-3
-overflow_add-result-3 c = let k = counts c.before.before.before in omega (arith, c.commas.ensures, c.commas-2.ensures)
+overflow_add-result-3 c = let k = counts c.before.before.before in omega (arith, c.saturating_sub.ensures, c.saturating_sub-2.ensures)
 
 pub returns : goal.returns
-returns c = let k = counts c.before.before.before in omega (arith, c.commas.ensures, c.commas-2.ensures)
+returns c = let k = counts c.before.before.before in omega (arith, c.saturating_sub.ensures, c.saturating_sub-2.ensures)

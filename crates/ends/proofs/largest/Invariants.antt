@@ -1,13 +1,8 @@
-use Rattle.std.specs.Prelude.{◌≡◌, Bool, ◌-◌, ℤ, length, drop}
+-- The largest of `best` and of the values that are still to come is the largest of all.
+use Rattle.std.specs.Prelude.{◌≡◌, drop}
 use Rattle.std.specs.Int.Signed.{lt_z}
 use Rattle.ends.specs.Ends.{first, largest_of}
 use Rattle.ends.proofs.largest.Given as goal
 
-abbrev pub before : ℤ → ℤ → Bool
-before = (λ y x. lt_z x y)
-
-abbrev pub invariant-loop-i : goal.invariant-loop-i
-invariant-loop-i l = first before l.best (drop l.i l.values) ≡ largest_of l.values
-
-abbrev pub decreases-loop-i : goal.decreases-loop-i
-decreases-loop-i l = length l.values - l.i
+abbrev pub invariant-loop-x : goal.invariant-loop-x
+invariant-loop-x l = first (λ y x. lt_z x y) l.best (drop l.x-index l.values) ≡ largest_of l.values

@@ -1,9 +1,6 @@
-use Rattle.std.specs.Prelude.{◌≡◌, ◌-◌, ◌≤◌}
+use Rattle.std.specs.Prelude.{◌≡◌}
 use Rattle.order.specs.Order.{counted}
 use Rattle.order.proofs.fill.Given as goal
 
 abbrev pub invariant-loop-i : goal.invariant-loop-i
-invariant-loop-i l = (l.i ≤ l.n) × (l.ind ≡ counted l.i l.initial.ind) × (l.val ≡ counted l.i l.initial.val)
-
-abbrev pub decreases-loop-i : goal.decreases-loop-i
-decreases-loop-i l = l.n - l.i
+invariant-loop-i l = (l.ind ≡ counted l.i l.initial.ind) × (l.val ≡ counted l.i l.initial.val)

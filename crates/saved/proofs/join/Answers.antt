@@ -1,7 +1,7 @@
 -- `saved::join` meets its contract: what is joined so far is below a limit exactly if x and each mask so far are. Assumes nothing.
 use Rattle.std.specs.Prelude.{◌≡◌, refl, Bool, true, false, ◌&&◌, ℕ, ◌^◌, ltb}
 use Rattle.std.specs.Int.Bits.{bit_or}
-use Rattle.std.proofs.Common.{sym, ap, ◌∙◌, add-one, arith, rules}
+use Rattle.std.proofs.Common.{sym, ap, ◌∙◌, add-one}
 use Rattle.mask.specs.Val.{val}
 use Rattle.saved.specs.Saved.{saved_at, fit_under}
 use Rattle.saved.proofs.SavedLaws.{or-limit}
@@ -20,24 +20,15 @@ turn true false false = refl
 turn false q r = refl
 
 pub loop-m-init : goal.loop-m-init
-loop-m-init c = (search rules, λ k. and-true (ltb (val c.args.x) (2 ^ k)))
+loop-m-init c k = and-true (ltb (val c.args.x) (2 ^ k))
 
 pub loop-m-preserved : goal.loop-m-preserved
-loop-m-preserved c =
+loop-m-preserved c k =
     let a = c.args in
     let w = a.ws.now in
-    let i = c.loop-m in (
-      search rules,
-      λ k.
-          ap (λ (n : ℕ). ltb n (2 ^ k)) (c.or-all.ensures ∙ ap (λ x. bit_or (val i.all) (val x)) c.at.ensures)
-          ∙ or-limit (val i.all) (val (saved_at w i.m a.i)) k
-          ∙ ap (λ (b : Bool). b && ltb (val (saved_at w i.m a.i)) (2 ^ k)) (i.invariant.1 k)
-          ∙ turn (ltb (val a.x) (2 ^ k)) (fit_under w i.m a.i k) (ltb (val (saved_at w i.m a.i)) (2 ^ k))
-          ∙ ap (λ (n : ℕ). ltb (val a.x) (2 ^ k) && fit_under w n a.i k) (sym (add-one i.m)),
-    )
-
-pub returns : goal.returns
-returns c =
-    let a = c.args in
-    let e : c.loop-m.m ≡ a.marks = omega arith in
-    λ k. c.loop-m.invariant.1 k ∙ ap (λ (n : ℕ). ltb (val a.x) (2 ^ k) && fit_under a.ws.now n a.i k) e
+    let i = c.loop-m in
+    ap (λ (n : ℕ). ltb n (2 ^ k)) (c.or-all.ensures ∙ ap (λ x. bit_or (val i.all) (val x)) c.at.ensures)
+    ∙ or-limit (val i.all) (val (saved_at w i.m a.i)) k
+    ∙ ap (λ (b : Bool). b && ltb (val (saved_at w i.m a.i)) (2 ^ k)) (i.invariant k)
+    ∙ turn (ltb (val a.x) (2 ^ k)) (fit_under w i.m a.i k) (ltb (val (saved_at w i.m a.i)) (2 ^ k))
+    ∙ ap (λ (n : ℕ). ltb (val a.x) (2 ^ k) && fit_under w n a.i k) (sym (add-one i.m))

@@ -1,6 +1,6 @@
 -- `sheet_number::digits_from` meets its contract. The invariant: what the run from `at` writes, the digits so far and the run from p write,
 -- and the two runs end at one place. Assumes nothing.
-use Rattle.std.specs.Prelude.{refl}
+use Rattle.std.specs.Prelude.{◌≡◌, length, refl}
 use Rattle.std.proofs.Common.{sym, ◌∙◌, arith}
 use Rattle.sheet_number.proofs.Runs.{digit-in-run, not-in-run, run-stops, run_ends, end_none, end_goes, digits-none, digits-goes, digits-minus}
 use Rattle.sheet_number.proofs.FirstByte.{capped-none, capped-some}
@@ -41,8 +41,6 @@ pub returns : goal.returns
 returns c =
     let i = c.loop-p.invariant in
     let s = c.args.s.now in
+    let e : c.loop-p.p ≡ length s = omega arith in
     let r = run_ends s c.loop-p.p (omega arith) in
-    capped-some _ i.0 _ _ _ (i.2 ∙ digits-none i.0 _ r) i.1 (sym (end_none s c.loop-p.p r) ∙ i.3)
-
-pub loop-p-smaller : goal.loop-p-smaller
-loop-p-smaller c = omega arith
+    capped-some _ i.0 _ _ _ (i.2 ∙ digits-none i.0 _ r) i.1 (sym e ∙ sym (end_none s c.loop-p.p r) ∙ i.3)

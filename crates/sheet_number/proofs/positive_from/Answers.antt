@@ -7,6 +7,7 @@ use Rattle.sheet_number.specs.Told.{capped}
 use Rattle.sheet_number.proofs.Runs.{positive-goes, positive-stops, positive-none, run_ends}
 use Rattle.sheet_number.proofs.FirstByte.{capped-none}
 use Rattle.sheet_number.proofs.positive_from.Goals as goal
+use Rattle.sheet_number.proofs.positive_from.Goals.{else-at-s-via-then-at-s+else-is_lead, else-at-s-via-else-at-s}
 
 pub returns-then-is_lead : goal.returns-then-is_lead
 returns-then-is_lead c =
@@ -15,12 +16,10 @@ returns-then-is_lead c =
     c.digits_from.ensures
     ∙ ap (λ (o : Option ℕ). capped o (run_end s a.at)) (sym (positive-goes s a.at (omega arith) (sym c.is_lead.ensures ∙ c.if-is_lead.true)))
 
-pub returns-else-is_lead : goal.returns-else-is_lead
-returns-else-is_lead c =
+pub returns : goal.returns
+returns c =
     let a = c.args in
-    capped-none _ _ (positive-stops a.s.now a.at (omega arith) (sym c.is_lead.ensures ∙ c.if-is_lead.false))
-
-pub returns-else-at-s : goal.returns-else-at-s
-returns-else-at-s c =
-    let a = c.args in
-    capped-none _ _ (positive-none _ (run_ends a.s.now a.at (omega arith)))
+    elim c.else-at-s.branch [
+      | else-at-s-via-then-at-s+else-is_lead w ↦ capped-none _ _ (positive-stops a.s.now a.at (omega arith) (sym w.is_lead.ensures ∙ w.if-is_lead.false))
+      | else-at-s-via-else-at-s w ↦ capped-none _ _ (positive-none _ (run_ends a.s.now a.at (omega arith)))
+    ]

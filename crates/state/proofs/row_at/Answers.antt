@@ -15,5 +15,5 @@ unfolding with-ends
 returns c =
     let a = c.args in
     let w = get_or a.ws.now (start a.i + 1) 0 in
-    let f : w < 2 ^ 64 = omega (arith, c.shared_slice_known-5-1.given (start a.i + 1)) in
+    let f : w < 2 ^ 64 = omega (arith, c.type_inv.ws (start a.i + 1)) in
     λ t. with-ends (row_in a.ws.now a.i) (low_read w c.low_chute.result c.low_chute.ensures t) (high_read w c.high_chute.result f c.high_chute.ensures t)

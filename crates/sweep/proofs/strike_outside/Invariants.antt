@@ -1,4 +1,4 @@
-use Rattle.std.specs.Prelude.{◌≡◌, ◌/◌, ◌^◌, ◌≤◌, ◌-◌, take}
+use Rattle.std.specs.Prelude.{◌≡◌, ◌/◌, ◌^◌}
 use Rattle.rules.specs.Pass.{sweep}
 use Rattle.rules.specs.Table.{bits}
 use Rattle.sweep.specs.Listed.{listed, Left}
@@ -6,7 +6,4 @@ use Rattle.sweep.proofs.Turns.{So}
 use Rattle.sweep.proofs.strike_outside.Given as goal
 
 abbrev pub invariant-loop-q : goal.invariant-loop-q
-invariant-loop-q l = (l.q ≤ l.n) × (l.inside ≡ l.set / 2 ^ l.q) × Left l.n l.initial.ms l.ms × So (bits l.n l.set) (take l.r l.vals) (listed l.mins l.ms l.n) l.changed l.q (sweep (bits l.n l.set) (take l.r l.vals) (listed l.mins l.initial.ms l.n))
-
-abbrev pub decreases-loop-q : goal.decreases-loop-q
-decreases-loop-q l = l.n - l.q
+invariant-loop-q l = (l.inside ≡ l.set / 2 ^ l.q) × Left l.n l.initial.ms l.ms × So (bits l.n l.set) l.vals (listed l.mins l.ms l.n) l.changed l.q (sweep (bits l.n l.set) l.vals (listed l.mins l.initial.ms l.n))

@@ -1,9 +1,6 @@
-use Rattle.std.specs.Prelude.{◌≡◌, true, ◌≤◌, ◌-◌, pos, get_or}
+use Rattle.std.specs.Prelude.{◌≡◌, true, pos, get_or}
 use Rattle.sweep.specs.Listed.{Level}
 use Rattle.alldiff.proofs.first.is_level.Given as goal
 
-abbrev pub invariant-loop-p : goal.invariant-loop-p
-invariant-loop-p l = (l.p ≤ l.n) × (l.level ≡ true → Level (get_or l.mins 0 (pos 0)) l.mins l.p)
-
-abbrev pub decreases-loop-p : goal.decreases-loop-p
-decreases-loop-p l = l.n - l.p
+abbrev pub invariant-loop-min : goal.invariant-loop-min
+invariant-loop-min l = (l.level ≡ true → Level (get_or l.fn.mins 0 (pos 0)) l.fn.mins l.min-index)

@@ -15,10 +15,10 @@ returns-then-c-le-ROOMY c =
     let a = c.args.c in
     let f : SFits w32 a.min = search rules in
     let g : Fit a.mask = search rules in
-    sym (roomy-well a g (ap (λ (z : ℤ). le_z z (pos 2147483520)) (sym (read a.min f)) ∙ c.if-c-le-ROOMY.true))
+    c.if-c-le-ROOMY.true ∙ sym (roomy-well a g (ap (λ (z : ℤ). le_z z (pos 2147483520)) (sym (read a.min f)) ∙ c.if-c-le-ROOMY.true))
 
-pub returns : goal.returns
-returns c =
+pub returns-else-c-le-ROOMY : goal.returns-else-c-le-ROOMY
+returns-else-c-le-ROOMY c =
     let a = c.args.c in
     let f : SFits w32 a.min = search rules in
     c.fits.ensures ∙ ap (λ (n : ℕ). ltb (val a.mask) (2 ^ n)) (c.span.ensures ∙ ap (λ (z : ℤ). span_of z (pos 2147483647)) (read a.min f)) ∙ sym (well-fits a)

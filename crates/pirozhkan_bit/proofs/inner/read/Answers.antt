@@ -10,5 +10,5 @@ unfolding read_of
 returns c =
     let a = c.args in
     let w = get_or a.ws.now 0 0 in
-    let f : w < 2 ^ 64 = omega (arith, c.shared_slice_known-4-1.given 0) in
+    let f : w < 2 ^ 64 = omega (arith, c.type_inv.ws 0) in
     λ t. record { mask = record { lo = get_or a.ws.now 1 0; hi = get_or a.ws.now 2 0 }; min = low_read w c.low_chute.result c.low_chute.ensures t; max = high_read w c.high_chute.result f c.high_chute.ensures t }

@@ -1,17 +1,11 @@
 -- `pirozhkan_bit::inner::write` meets its contract: three stores, one after the other. Assumes nothing.
 use Rattle.std.specs.Prelude.{◌≡◌, [], ◌∷◌, ◌++◌, ℕ, drop}
 use Rattle.std.specs.Int.{w32}
-use Rattle.std.proofs.Common.{ap, ◌∙◌, arith, length-set, SFits, rules}
+use Rattle.std.proofs.Common.{ap, ◌∙◌, arith, SFits, rules}
 use Rattle.std.proofs.lemmas.List.Edits.{sets-eq}
 use Rattle.offset.specs.Wide.{read32}
 use Rattle.state.specs.Layout.{ends_word}
 use Rattle.pirozhkan_bit.proofs.inner.write.Goals as goal
-
-pub bounds-ws-1 : goal.bounds-ws-1
-bounds-ws-1 c = simp length-set (omega arith)
-
-pub bounds-ws-2 : goal.bounds-ws-2
-bounds-ws-2 c = simp length-set (omega arith)
 
 pub returns : goal.returns
 returns c =

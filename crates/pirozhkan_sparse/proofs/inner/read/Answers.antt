@@ -11,6 +11,6 @@ pub returns : goal.returns
 unfolding read_of
 returns c =
     let ws = c.args.ws.now in
-    let l : get_or ws 0 0 < 2 ^ 32 = omega (arith, c.shared_slice_known-6-1.given 0) in
+    let l : get_or ws 0 0 < 2 ^ 32 = omega (arith, c.type_inv.ws 0) in
     let off = ap (λ (z : ℤ). to_z w32 (of_z w32 z)) c.chute.ensures ∙ read32 (chute-fits (get_or ws 0 0) l) in
     λ t. record { off = off t; n = get_or ws 1 0; size = get_or ws 2 0; min = get_or ws 3 0; max = get_or ws 4 0 }

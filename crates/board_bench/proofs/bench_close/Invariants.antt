@@ -1,9 +1,0 @@
--- One turn for each call. Assumes nothing.
-use Rattle.std.proofs.Common.{◌-◌, ◌≤◌}
-use Rattle.board_bench.proofs.bench_close.Given as goal
-
-abbrev pub invariant-loop-i : goal.invariant-loop-i
-invariant-loop-i l = l.i ≤ l.turns
-
-abbrev pub decreases-loop-i : goal.decreases-loop-i
-decreases-loop-i l = l.turns - l.i

@@ -1,9 +1,0 @@
--- The turns are counted. Assumes nothing.
-use Rattle.std.specs.Prelude.{◌≤◌, ◌-◌}
-use Rattle.hand_bench.proofs.board.Given as goal
-
-abbrev pub invariant-loop-i : goal.invariant-loop-i
-invariant-loop-i l = l.i ≤ 64
-
-abbrev pub decreases-loop-i : goal.decreases-loop-i
-decreases-loop-i l = 64 - l.i

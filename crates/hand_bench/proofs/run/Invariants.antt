@@ -1,9 +1,0 @@
--- A store keeps the length. Assumes nothing.
-use Rattle.std.specs.Prelude.{◌≤◌, ◌-◌, ◌≡◌, length}
-use Rattle.hand_bench.proofs.run.Given as goal
-
-abbrev pub invariant-loop-i : goal.invariant-loop-i
-invariant-loop-i l = (l.i ≤ 256) × (length l.cs ≡ 256)
-
-abbrev pub decreases-loop-i : goal.decreases-loop-i
-decreases-loop-i l = 256 - l.i

@@ -1,2 +1,0 @@
--- The laws that several functions' proofs cite.
-mod Parts

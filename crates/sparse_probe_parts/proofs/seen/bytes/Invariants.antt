@@ -1,9 +1,0 @@
--- One turn for each byte. Assumes nothing.
-use Rattle.std.proofs.Common.{◌-◌, ◌≤◌}
-use Rattle.sparse_probe_parts.proofs.seen.bytes.Given as goal
-
-abbrev pub invariant-loop-i : goal.invariant-loop-i
-invariant-loop-i l = l.i ≤ l.n
-
-abbrev pub decreases-loop-i : goal.decreases-loop-i
-decreases-loop-i l = l.n - l.i
