@@ -6,7 +6,6 @@
 #![tactic(auto)]
 
 ghost use Rattle.std.specs.Prelude.{◌≡◌};
-ghost use Rattle.std.specs.Fn.{FnOnceReturnsAtMut};
 ghost use Rattle.rules.specs.Board.{remove, assign, below, above};
 ghost use Rattle.board_close.specs.Close.{close_of};
 ghost use Rattle.board_in_place.specs.Behind.{closed};
@@ -24,16 +23,6 @@ fn in_place<F: FnOnce(Board) -> Closed>(b: &mut Board, call: F) -> Result<bool, 
     r.answer
 }
 
-// A local is lent to the call through a reference.
-fn lent<F: FnOnce(&mut Board) -> Result<bool, Refusal>>(b: Board, call: F) -> Closed
-    requires { F.IsAlwaysCallable call }
-    ensures { FnOnceReturnsAtMut F.FnOnce call b result.answer result.board }
-{
-    let mut board = b;
-    let answer = call(&mut board);
-    Closed { board, answer }
-}
-
 pub fn remove_value(b: &mut Board, id: Variable, v: Value) -> Result<bool, Refusal>
     ensures { closed b.new result ≡ close_of remove b.old id v }
 {
@@ -43,7 +32,9 @@ pub fn remove_value(b: &mut Board, id: Variable, v: Value) -> Result<bool, Refus
 pub fn remove_value_here(b: Board, id: Variable, v: Value) -> Closed
     ensures { result ≡ close_of remove b id v }
 {
-    lent(b, |c| remove_value(c, id, v))
+    let mut board = b;
+    let answer = remove_value(&mut board, id, v);
+    Closed { board, answer }
 }
 
 pub fn assign_variable(b: &mut Board, id: Variable, v: Value) -> Result<bool, Refusal>
@@ -55,7 +46,9 @@ pub fn assign_variable(b: &mut Board, id: Variable, v: Value) -> Result<bool, Re
 pub fn assign_variable_here(b: Board, id: Variable, v: Value) -> Closed
     ensures { result ≡ close_of assign b id v }
 {
-    lent(b, |c| assign_variable(c, id, v))
+    let mut board = b;
+    let answer = assign_variable(&mut board, id, v);
+    Closed { board, answer }
 }
 
 pub fn remove_below(b: &mut Board, id: Variable, v: Value) -> Result<bool, Refusal>
@@ -67,7 +60,9 @@ pub fn remove_below(b: &mut Board, id: Variable, v: Value) -> Result<bool, Refus
 pub fn remove_below_here(b: Board, id: Variable, v: Value) -> Closed
     ensures { result ≡ close_of below b id v }
 {
-    lent(b, |c| remove_below(c, id, v))
+    let mut board = b;
+    let answer = remove_below(&mut board, id, v);
+    Closed { board, answer }
 }
 
 pub fn remove_above(b: &mut Board, id: Variable, v: Value) -> Result<bool, Refusal>
@@ -79,5 +74,7 @@ pub fn remove_above(b: &mut Board, id: Variable, v: Value) -> Result<bool, Refus
 pub fn remove_above_here(b: Board, id: Variable, v: Value) -> Closed
     ensures { result ≡ close_of above b id v }
 {
-    lent(b, |c| remove_above(c, id, v))
+    let mut board = b;
+    let answer = remove_above(&mut board, id, v);
+    Closed { board, answer }
 }
