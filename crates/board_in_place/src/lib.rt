@@ -1,7 +1,7 @@
 // The closings of a board's destinations through a reference: what stands behind it is closed in place, and the answer is that
 // of the call by value. A refused call leaves it as it was.
 //
-// remove_value, assign_variable, remove_below, remove_above; each is the call of `board_close` by its name, made in place.
+// remove_value, assign_variable, remove_below, remove_above; each is thin over the call of `board_close` by its name.
 // remove_value_here, assign_variable_here, ..: the same by value, each lending a local to the call above it, for callers that hold no reference
 #![tactic(auto)]
 
@@ -13,20 +13,12 @@ ghost use Rattle.board_in_place.specs.Behind.{closed};
 use board::{Board, Closed};
 use rules::{Refusal, Value, Variable};
 
-// What the call by value hands back stands behind the reference then.
-fn in_place<F: FnOnce(Board) -> Closed>(b: &mut Board, call: F) -> Result<bool, Refusal>
-    requires { F.pre call b.old }
-    ensures { F.post call b.old (closed b.new result) }
-{
-    let r = call(*b);
-    *b = r.board;
-    r.answer
-}
-
 pub fn remove_value(b: &mut Board, id: Variable, v: Value) -> Result<bool, Refusal>
     ensures { closed b.new result ≡ close_of remove b.old id v }
 {
-    in_place(b, |c| board_close::remove_value(c, id, v))
+    let r = board_close::remove_value(*b, id, v);
+    *b = r.board;
+    r.answer
 }
 
 pub fn remove_value_here(b: Board, id: Variable, v: Value) -> Closed
@@ -40,7 +32,9 @@ pub fn remove_value_here(b: Board, id: Variable, v: Value) -> Closed
 pub fn assign_variable(b: &mut Board, id: Variable, v: Value) -> Result<bool, Refusal>
     ensures { closed b.new result ≡ close_of assign b.old id v }
 {
-    in_place(b, |c| board_close::assign_variable(c, id, v))
+    let r = board_close::assign_variable(*b, id, v);
+    *b = r.board;
+    r.answer
 }
 
 pub fn assign_variable_here(b: Board, id: Variable, v: Value) -> Closed
@@ -54,7 +48,9 @@ pub fn assign_variable_here(b: Board, id: Variable, v: Value) -> Closed
 pub fn remove_below(b: &mut Board, id: Variable, v: Value) -> Result<bool, Refusal>
     ensures { closed b.new result ≡ close_of below b.old id v }
 {
-    in_place(b, |c| board_close::remove_below(c, id, v))
+    let r = board_close::remove_below(*b, id, v);
+    *b = r.board;
+    r.answer
 }
 
 pub fn remove_below_here(b: Board, id: Variable, v: Value) -> Closed
@@ -68,7 +64,9 @@ pub fn remove_below_here(b: Board, id: Variable, v: Value) -> Closed
 pub fn remove_above(b: &mut Board, id: Variable, v: Value) -> Result<bool, Refusal>
     ensures { closed b.new result ≡ close_of above b.old id v }
 {
-    in_place(b, |c| board_close::remove_above(c, id, v))
+    let r = board_close::remove_above(*b, id, v);
+    *b = r.board;
+    r.answer
 }
 
 pub fn remove_above_here(b: Board, id: Variable, v: Value) -> Closed

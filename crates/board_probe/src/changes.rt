@@ -1,4 +1,6 @@
 // The calls that change a board.
+ghost use Rattle.std.specs.Prelude.{◌<◌};
+
 use board::{Closed, Settled};
 use board_probe_parts::call::Call;
 use board_probe_parts::raw;
@@ -26,7 +28,9 @@ fn spread(run: &mut Run, s: Spread) -> Reply {
 }
 
 // The records that are no call leave a part of the board that they set by hand.
-pub fn change(call: Call, r: Record, run: &mut Run) -> Reply {
+pub fn change(call: Call, r: Record, run: &mut Run) -> Reply
+    requires { (r.a < 8) × (r.b < 8) }
+{
     let b = run.board;
     let v = Value(r.v);
     match call {

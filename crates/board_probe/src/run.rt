@@ -1,5 +1,5 @@
 // A script on a board.
-ghost use Rattle.std.specs.Prelude.{◌≡◌, ◌≤◌, length};
+ghost use Rattle.std.specs.Prelude.{◌≡◌, ◌<◌, ◌≤◌, length};
 
 use super::changes;
 use board::Board;
@@ -28,7 +28,7 @@ fn silent() -> Done
 }
 
 fn step(r: Record, run: &mut Run, behind: &mut [u8]) -> Done
-    requires { 10264 ≤ length behind.old }
+    requires { (r.a < 8) × (r.b < 8) × (10264 ≤ length behind.old) }
     ensures { (result.behind ≤ 10264) × (length behind.new ≡ length behind.old) }
 {
     let call = Call::from(r.op);
@@ -87,7 +87,7 @@ pub fn probe_board(script: &[u8], out: &mut [u8]) -> usize
         out,
         show::SIZE,
         |r, behind|
-            requires { 10264 ≤ length behind.now }
+            requires { (r.a < 8) × (r.b < 8) × (10264 ≤ length behind.now) }
             ensures { result.behind ≤ 10264 }
         { step(r, &mut run, behind) },
     )

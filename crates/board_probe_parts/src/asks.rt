@@ -1,4 +1,6 @@
 // The calls that leave a board as it is.
+ghost use Rattle.std.specs.Prelude.{◌<◌};
+
 use super::call::Call;
 use super::raw::id;
 use super::reply as ids;
@@ -11,7 +13,9 @@ use probe_parts::reply::Reply;
 use probe_parts::turn::{made, stepped};
 
 // The calls on cursor b, over the chutes of a destination.
-pub fn on_chutes(call: Call, r: Record, run: &mut Run) -> Reply {
+pub fn on_chutes(call: Call, r: Record, run: &mut Run) -> Reply
+    requires { r.b < 8 }
+{
     let place = CURSORS + r.b;
     let old = run.regs.get(place);
     let t = match call {

@@ -1,4 +1,6 @@
 // Parts of a board set by hand, which makes boards that aren't well formed too.
+ghost use Rattle.std.specs.Prelude.{◌<◌};
+
 use super::call::Call;
 use board::{Board, Row};
 use domain::BitDomain;
@@ -23,7 +25,9 @@ fn row(r: Record) -> Row {
 }
 
 // A row, a saved word, the count, the marks, or the flag.
-pub fn set(call: Call, r: Record, b: &mut Board) {
+pub fn set(call: Call, r: Record, b: &mut Board)
+    requires { (r.a < 8) × (r.b < 8) }
+{
     match call {
         Call::SetRow => {
             b.rows[8 * r.a + r.b] = row(r);

@@ -1,11 +1,13 @@
 // What a run holds: a board, registers, and ids. Lists of ids that calls are given are parts of these.
+ghost use Rattle.std.specs.Prelude.{◌<◌};
+
 use board::Board;
 use probe_parts::record::Record;
 use probe_parts::regs::Registers;
 use probe_parts::wire::half;
 
 // How many ids there are.
-const IDS: usize = 224;
+pub const IDS: usize = 224;
 
 #[derive(Clone, Copy)]
 pub struct Run {
@@ -43,7 +45,9 @@ impl Run {
     }
 
     // The listed values from place b on that a record names.
-    pub fn values(&self, r: Record) -> &[i32] {
+    pub fn values(&self, r: Record) -> &[i32]
+        requires { r.b < 8 }
+    {
         let end = r.b + ((r.lo % 4096) as usize).min(152);
         &self.regs.values[r.b..end]
     }

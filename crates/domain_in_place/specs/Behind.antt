@@ -2,11 +2,7 @@
 use Rattle.std.specs.Prelude.{Result, Bool}
 use Rattle.rules.specs.declared.Refusal.{Refusal}
 use Rattle.domain.specs.Calls.{Changed, Narrowed}
-use Rattle.domain.specs.declared.Answered.{Answered}
 use Rattle.domain.specs.declared.BitDomain.{BitDomain}
-
-abbrev pub behind : {A : Type 0} → BitDomain → Result A Refusal → Answered A
-behind d a = record { domain = d; answer = a }
 
 abbrev pub changed : BitDomain → Result Bool Refusal → Changed
 changed d a = record { domain = d; answer = a }

@@ -1,36 +1,24 @@
 // The calls that change a domain, through a reference: what stands behind it is changed in place, and the answer is that of
 // the call by value. A refused call leaves it as it was.
 //
-// insert, remove, remove_all_but, remove_below, remove_above; each is the call of `domain` by its name, made in place.
+// insert, remove, remove_all_but, remove_below, remove_above; each is thin over the call of `domain` by its name.
 // insert_here, remove_here, ..: the same by value, each lending a local to the call above it, for callers that hold no reference
 #![tactic(auto)]
 
 ghost use Rattle.std.specs.Prelude.{◌≡◌};
 ghost use Rattle.rules.specs.Board.{assign, below, above};
 ghost use Rattle.domain.specs.Calls.{insert_of, remove_of, close_of};
-ghost use Rattle.domain_in_place.specs.Behind.{changed, narrowed, behind};
+ghost use Rattle.domain_in_place.specs.Behind.{changed, narrowed};
 
 use domain::{Answered, BitDomain, Changed, Narrowed};
 use rules::{Refusal, Value};
 
-// What the call by value hands back stands behind the reference then.
-fn in_place<T, F: FnOnce(BitDomain, Value) -> Answered<T>>(
-    d: &mut BitDomain,
-    v: Value,
-    call: F,
-) -> Result<T, Refusal>
-    requires { F.pre call d.old v }
-    ensures { F.post call d.old v (behind d.new result) }
-{
-    let r = call(*d, v);
-    *d = r.domain;
-    r.answer
-}
-
 pub fn insert(d: &mut BitDomain, v: Value) -> Result<bool, Refusal>
     ensures { changed d.new result ≡ insert_of d.old v }
 {
-    in_place(d, v, domain::insert)
+    let r = domain::insert(*d, v);
+    *d = r.domain;
+    r.answer
 }
 
 pub fn insert_here(d: BitDomain, v: Value) -> Changed
@@ -44,7 +32,9 @@ pub fn insert_here(d: BitDomain, v: Value) -> Changed
 pub fn remove(d: &mut BitDomain, v: Value) -> Result<bool, Refusal>
     ensures { changed d.new result ≡ remove_of d.old v }
 {
-    in_place(d, v, domain::remove)
+    let r = domain::remove(*d, v);
+    *d = r.domain;
+    r.answer
 }
 
 pub fn remove_here(d: BitDomain, v: Value) -> Changed
@@ -58,7 +48,9 @@ pub fn remove_here(d: BitDomain, v: Value) -> Changed
 pub fn remove_all_but(d: &mut BitDomain, v: Value) -> Result<(), Refusal>
     ensures { narrowed d.new result ≡ close_of assign d.old v }
 {
-    in_place(d, v, domain::remove_all_but)
+    let r = domain::remove_all_but(*d, v);
+    *d = r.domain;
+    r.answer
 }
 
 pub fn remove_all_but_here(d: BitDomain, v: Value) -> Narrowed
@@ -72,7 +64,9 @@ pub fn remove_all_but_here(d: BitDomain, v: Value) -> Narrowed
 pub fn remove_below(d: &mut BitDomain, v: Value) -> Result<(), Refusal>
     ensures { narrowed d.new result ≡ close_of below d.old v }
 {
-    in_place(d, v, domain::remove_below)
+    let r = domain::remove_below(*d, v);
+    *d = r.domain;
+    r.answer
 }
 
 pub fn remove_below_here(d: BitDomain, v: Value) -> Narrowed
@@ -86,7 +80,9 @@ pub fn remove_below_here(d: BitDomain, v: Value) -> Narrowed
 pub fn remove_above(d: &mut BitDomain, v: Value) -> Result<(), Refusal>
     ensures { narrowed d.new result ≡ close_of above d.old v }
 {
-    in_place(d, v, domain::remove_above)
+    let r = domain::remove_above(*d, v);
+    *d = r.domain;
+    r.answer
 }
 
 pub fn remove_above_here(d: BitDomain, v: Value) -> Narrowed

@@ -5,6 +5,7 @@
 --     result, result-makes     its row, and the same of it
 --     struct_kind, enum_kind, two     the kind of a declared struct, of a declared enum, and the struct that holds the two. At a type of a program the
 --                              row that they give is the type's own, by computation
+--     answer_type, answer_laws, answer_plain     the enum `Result<F, X>` of a built-in type F and a declared one X, as `enum_kind` and `two` take an enum
 -- `typed` assumes `Logic`. All else assumes nothing.
 use Rattle.std.specs.Prelude.{◌≡◌, refl, List, [], ◌∷◌, ◌++◌, ℕ}
 use Rattle.std.proofs.Common.{sym, ◌∙◌, subst}
@@ -25,6 +26,12 @@ use denote.Struct.Laws as SL
 use denote.Enum.Enum as E
 use denote.Enum.Declared as ED
 use denote.Enum.Laws as EL
+use denote.Struct.Field.{Field}
+use denote.Param.Laws.{Laws, Told, of_field, field_told}
+use denote.Param.Plain.{IsPlain}
+use denote.Param.Shared.{copy_shared}
+use Rattle.std.specs.contracts.result.Result as Res
+use Rattle.std.proofs.result.Result.TheLaws as Res'
 
 abbrev row_of : (D : Type 0) → Ty → Written → List (Written × List Ty) → Lft → (D → List Val → Fml) → Coded D → (D → ℕ → ℕ → Lft → Fml) → RattleType
 row_of D τ w rs ls own c shr = record { Denot = D; mir = τ ∷ []; written = w; reaches = rs; lives = ls; own_val = own; exit = λ k. unchanged; coded = c; shr_at = shr }
@@ -87,6 +94,16 @@ enum_kind T L few pl = record {
   typed = λ 𝓛. (EL.lawful T L 𝓛 few).typed;
   pure = EL.pure T pl;
 }
+
+-- ---- what a call answers: a value of a built-in type, or a refusal of a declared one
+abbrev pub answer_type : Field → RattleType → ED.Declared
+answer_type F X = Res.the_type F.row X
+
+abbrev pub answer_laws : (F : Field) → SL.FLaws F → SL.Copyable F → (X : RattleType) → Laws X → Told X → EL.Laws (answer_type F X)
+answer_laws F L C X LX tX = Res'.the_laws F.row X (of_field F L C.alone (copy_shared F C)) LX (field_told F L) tX
+
+abbrev pub answer_plain : (F : Field) → SL.Plain F → (X : RattleType) → IsPlain X → E.Plainss (ED.variants (answer_type F X))
+answer_plain F p X pX = Res'.the_plain F.row X p pX
 
 -- ---- a struct of a state and an answer
 abbrev pub pack : Val → Val → Val

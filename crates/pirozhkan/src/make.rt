@@ -21,7 +21,7 @@ pub fn pirozhkan_new(ws: &mut [u64]) -> u64
 pub fn pirozhkan_add_variable(ws: &mut [u64], id: u32, min: i32, max: i32) -> u64
     ensures { left {C = List ℕ} result ws.new ≡ through (ranging id min max) ws.old }
 {
-    inner::settle(
+    inner::change(
         ws,
         |b| board_enter::add_variable(b, Variable(id), Value(min), Value(max)),
     )
@@ -30,7 +30,7 @@ pub fn pirozhkan_add_variable(ws: &mut [u64], id: u32, min: i32, max: i32) -> u6
 pub fn pirozhkan_add_variable_with_values(ws: &mut [u64], id: u32, values: &[i32]) -> u64
     ensures { left {C = List ℕ} result ws.new ≡ through (listing id values.now) ws.old }
 {
-    inner::settle(
+    inner::change(
         ws,
         |b| board_enter::add_variable_with_values(b, Variable(id), values),
     )

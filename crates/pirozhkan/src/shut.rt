@@ -49,5 +49,5 @@ pub fn pirozhkan_remove_above(ws: &mut [u64], id: u32, value: i32) -> u64
 pub fn pirozhkan_reset_changed_flag(ws: &mut [u64]) -> u64
     ensures { left {C = List ℕ} result ws.new ≡ through resetting ws.old }
 {
-    inner::settle(ws, board_close::reset_changed_flag)
+    inner::change(ws, board_close::reset_changed_flag)
 }

@@ -8,17 +8,17 @@ use super::inner;
 pub fn pirozhkan_mark(ws: &mut [u64]) -> u64
     ensures { left {C = List ℕ} result ws.new ≡ through marking ws.old }
 {
-    inner::settle(ws, trial::mark)
+    inner::change(ws, trial::mark)
 }
 
 pub fn pirozhkan_restore(ws: &mut [u64]) -> u64
     ensures { left {C = List ℕ} result ws.new ≡ through restoring ws.old }
 {
-    inner::settle(ws, trial::restore)
+    inner::change(ws, trial::restore)
 }
 
 pub fn pirozhkan_keep(ws: &mut [u64]) -> u64
     ensures { left {C = List ℕ} result ws.new ≡ through keeping ws.old }
 {
-    inner::settle(ws, trial::keep)
+    inner::change(ws, trial::keep)
 }

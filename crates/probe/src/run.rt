@@ -1,5 +1,5 @@
 // A script on the registers of domains.
-ghost use Rattle.std.specs.Prelude.{◌≡◌, ◌≤◌, length};
+ghost use Rattle.std.specs.Prelude.{◌≡◌, ◌<◌, ◌≤◌, length};
 
 use super::call::Call;
 use super::{lent, turns};
@@ -10,7 +10,9 @@ use probe_parts::script::Done;
 use probe_parts::turn::Turn;
 
 // What a record does to other registers than the one that its answer shows.
-fn beside(call: Call, r: Record, regs: &mut Registers) {
+fn beside(call: Call, r: Record, regs: &mut Registers)
+    requires { (r.a < 8) × (r.b < 8) }
+{
     match call {
         Call::Clear => {
             *regs = Registers::new();
@@ -27,7 +29,9 @@ fn beside(call: Call, r: Record, regs: &mut Registers) {
 }
 
 // A call on domain a.
-fn on_domain(call: Call, r: Record, regs: &mut Registers) -> Turn {
+fn on_domain(call: Call, r: Record, regs: &mut Registers) -> Turn
+    requires { (r.a < 8) × (r.b < 8) }
+{
     beside(call, r, regs);
     let t = turns::on_domain(call, r, regs);
     regs.put(r.a, t.left);
@@ -35,14 +39,16 @@ fn on_domain(call: Call, r: Record, regs: &mut Registers) -> Turn {
 }
 
 // A call on cursor b.
-fn on_cursor(call: Call, r: Record, regs: &mut Registers) -> Turn {
+fn on_cursor(call: Call, r: Record, regs: &mut Registers) -> Turn
+    requires { (r.a < 8) × (r.b < 8) }
+{
     let t = turns::on_cursor(call, r, regs);
     regs.put(CURSORS + r.b, t.left);
     t
 }
 
 fn step(r: Record, regs: &mut Registers, behind: &mut [u8]) -> Done
-    requires { 2048 ≤ length behind.old }
+    requires { (r.a < 8) × (r.b < 8) × (2048 ≤ length behind.old) }
     ensures { (result.behind ≤ 2048) × (length behind.new ≡ length behind.old) }
 {
     let call = Call::from(r.op);
@@ -67,7 +73,7 @@ pub fn probe_domain(script: &[u8], out: &mut [u8]) -> usize
         out,
         lent::MOST,
         |r, behind|
-            requires { 2048 ≤ length behind.now }
+            requires { (r.a < 8) × (r.b < 8) × (2048 ≤ length behind.now) }
             ensures { result.behind ≤ 2048 }
         { step(r, &mut regs, behind) },
     )

@@ -1,4 +1,6 @@
 // What a record leaves and answers, by its call.
+ghost use Rattle.std.specs.Prelude.{◌<◌};
+
 use super::call::Call;
 use domain::{BitDomain, Changed, Narrowed};
 use mask::Mask;
@@ -22,7 +24,7 @@ fn plain(d: BitDomain) -> Turn {
 }
 
 // A register of a record's own numbers, well formed or not.
-fn raw(r: Record, bounds: u64) -> Register {
+pub fn raw(r: Record, bounds: u64) -> Register {
     Register {
         lo: r.lo,
         hi: r.hi,
@@ -31,13 +33,17 @@ fn raw(r: Record, bounds: u64) -> Register {
 }
 
 // The listed values from place b up to place b + n.
-fn listed(r: Record, regs: &Registers) -> &[i32] {
+fn listed(r: Record, regs: &Registers) -> &[i32]
+    requires { r.b < 8 }
+{
     let end = r.b + r.n.min(152);
     &regs.values[r.b..end]
 }
 
 // What is left of domain a. The calls that it doesn't name are on cursors.
-pub fn on_domain(call: Call, r: Record, regs: &Registers) -> Turn {
+pub fn on_domain(call: Call, r: Record, regs: &Registers) -> Turn
+    requires { (r.a < 8) × (r.b < 8) }
+{
     let old = regs.get(r.a);
     let d = BitDomain::from(old);
     let other = BitDomain::from(regs.get(r.b));
@@ -91,7 +97,9 @@ pub fn on_domain(call: Call, r: Record, regs: &Registers) -> Turn {
 }
 
 // What is left of cursor b. The calls that it doesn't name are on domains.
-pub fn on_cursor(call: Call, r: Record, regs: &Registers) -> Turn {
+pub fn on_cursor(call: Call, r: Record, regs: &Registers) -> Turn
+    requires { (r.a < 8) × (r.b < 8) }
+{
     let old = regs.get(CURSORS + r.b);
     match call {
         Call::Iter => made(domain_values::iter(regs.get(r.a).into()), old),
@@ -102,7 +110,9 @@ pub fn on_cursor(call: Call, r: Record, regs: &Registers) -> Turn {
 }
 
 // What is left of state b: the call saves domain a there, which a refusal leaves as it was, or sets it.
-pub fn state(call: Call, r: Record, regs: &Registers) -> Register {
+pub fn state(call: Call, r: Record, regs: &Registers) -> Register
+    requires { (r.a < 8) × (r.b < 8) }
+{
     let old = regs.get(STATES + r.b);
     match call {
         Call::SaveState => made(domain_pairs::save_state(regs.get(r.a).into()), old).left,

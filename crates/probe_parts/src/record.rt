@@ -15,12 +15,12 @@ pub struct Record {
     pub n: usize,
     pub lo: u64,
     pub hi: u64,
-    ghost register_a: { a < 8 },
-    ghost register_b: { b < 8 },
 }
 
 // The call, two registers of eight, two values, a count, and a mask.
-pub fn read(bytes: &[u8; SIZE]) -> Record {
+pub fn read(bytes: &[u8; SIZE]) -> Record
+    ensures { (result.a < 8) × (result.b < 8) }
+{
     let head = wire::word(bytes, 0);
     let tail = wire::word(bytes, 8);
     Record {

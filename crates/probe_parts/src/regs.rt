@@ -15,7 +15,7 @@ pub const STATES: usize = 16;
 const REGISTERS: usize = 24;
 
 // How many values the list has.
-const LISTED: usize = 160;
+pub const LISTED: usize = 160;
 
 // What a register holds: a mask, and bounds or another number.
 #[derive(Clone, Copy, Default)]

@@ -32,10 +32,16 @@ pub enum Kind {
     Refused = 255,
 }
 
-// The kind, a refusal's number, a count, a value, and a mask.
+impl From<Kind> for u64 {
+    fn from(kind: Kind) -> u64 {
+        kind as u64
+    }
+}
+
+// The kind by its number, a refusal's number, a count, a value, and a mask.
 #[derive(Clone, Copy)]
 pub struct Reply {
-    pub kind: Kind,
+    pub kind: u64,
     pub refusal: u32,
     pub count: u64,
     pub value: u64,
@@ -43,9 +49,9 @@ pub struct Reply {
     pub hi: u64,
 }
 
-pub fn plain(kind: Kind) -> Reply {
+pub fn plain<K: Into<u64>>(kind: K) -> Reply {
     Reply {
-        kind,
+        kind: kind.into(),
         refusal: 0,
         count: 0,
         value: 0,
@@ -58,14 +64,14 @@ pub fn none() -> Reply {
     plain(Kind::Nothing)
 }
 
-pub fn counted(kind: Kind, count: u64) -> Reply {
+pub fn counted<K: Into<u64>>(kind: K, count: u64) -> Reply {
     Reply {
         count,
         ..plain(kind)
     }
 }
 
-pub fn valued(kind: Kind, v: Value) -> Reply {
+pub fn valued<K: Into<u64>>(kind: K, v: Value) -> Reply {
     Reply {
         value: wire::bits(v.0),
         ..plain(kind)
@@ -201,7 +207,7 @@ pub fn write(op: u64, r: Reply, left: Register, out: &mut [u8], at: usize)
     ensures { length out.new ≡ length out.old }
 {
     let words = [
-        op | ((r.kind as u64) << 8) | ((r.refusal as u64) << 16),
+        op | (r.kind << 8) | ((r.refusal as u64) << 16),
         r.count,
         r.value,
         r.lo,

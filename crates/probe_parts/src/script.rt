@@ -1,5 +1,5 @@
 // A script, record by record.
-ghost use Rattle.std.specs.Prelude.{◌≡◌, ◌≤◌, length};
+ghost use Rattle.std.specs.Prelude.{◌≡◌, ◌<◌, ◌≤◌, length};
 
 use super::record::Record;
 use super::turn::Turn;
@@ -33,8 +33,8 @@ pub fn run<F: FnMut(Record, &mut [u8]) -> Done>(
     most: usize,
     mut step: F,
 ) -> usize
-    requires can { (state : F) (r : _) (behind : _) → most ≤ length behind.now → F.pre state r behind }
-    requires within { (state : F) (r : _) (behind : _) (done : _) (after : _) (left : F) → F.step state r behind done after left → done.behind ≤ most }
+    requires can { (state : F) (r : _) (behind : _) → r.a < 8 → r.b < 8 → most ≤ length behind.now → F.pre state r behind }
+    requires within { (state : F) (r : _) (behind : _) (done : _) (after : _) (left : F) → r.a < 8 → r.b < 8 → F.step state r behind done after left → done.behind ≤ most }
     requires small { most ≤ 65536 }
     ensures { result ≤ length out.new }
 {

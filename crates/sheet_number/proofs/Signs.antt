@@ -16,7 +16,7 @@ mag-minus : (m : ℕ) → 0 < m → mag (minus m) ≡ m - 1
 mag-minus zero h = omega arith
 mag-minus (suc n) h = omega arith
 
-huge-neg : (m e : ℕ) → 2 ^ 63 < m → Err OutOfRange ≡ within (some (minus m)) e
+pub huge-neg : (m e : ℕ) → 2 ^ 63 < m → Err OutOfRange ≡ within (some (minus m)) e
 huge-neg m e k =
     let p : 0 < m = omega arith in
     let l : 2 ^ 63 ≤ mag (minus m) = omega (arith, mag-minus m p) in

@@ -134,7 +134,9 @@ pub fn state(s: Sparse) -> SparseState
     }
 }
 
-// Is a set sound, whose universe is narrow and whose cells have room?
+// Is a set sound, whose universe is narrow and whose cells have room? It stands by itself, so that its loops are the same in every call: in line
+// with a threshold call's own work they took a third more.
+#[inline(never)]
 fn is_sound(s: Sparse, ind: &[u32], val: &[u32]) -> bool
     requires { (s.n ≤ length ind.now) × (s.n ≤ length val.now) }
     ensures { result ≡ sound_b (full s ind.now val.now) }

@@ -3,11 +3,12 @@ ghost use Rattle.std.specs.Prelude.{◌≡◌, ◌<◌, ◌≤◌, length};
 
 use super::cells;
 use super::cells::{CELLS, Cells, many};
+use probe_parts::behind::of_halves;
 use probe_parts::record::Record;
 use probe_parts::regs::{CURSORS, Register, Registers, STATES};
 use probe_parts::script::{Done, alone};
 use probe_parts::turn::{Turn, after};
-use probe_parts::wire::{half, pair, put_word};
+use probe_parts::wire::half;
 use probe_parts::{reply, script};
 use sparse_probe_calls::{change, look};
 use sparse_probe_parts::answer::saved;
@@ -24,7 +25,7 @@ struct Run {
 
 // What a record sets beside set a: 0 bits and blank cells, how many cells are lent, a cell, the list, a state, or a cursor.
 fn arrange(call: Call, r: Record, a: usize, run: &mut Run)
-    requires { a < 2 }
+    requires { (a < 2) × (r.b < 8) }
 {
     match call {
         Call::Clear => {
@@ -67,7 +68,7 @@ struct Given {
 }
 
 fn to_call(r: Record, a: usize, regs: &Registers) -> Given
-    requires { a < 2 }
+    requires { (a < 2) × (r.b < 8) }
 {
     Given {
         old: regs.get(a),
@@ -87,7 +88,9 @@ fn on_one(
     ind: &mut [u32; CELLS],
     val: &mut [u32; CELLS],
     list: &[i32; CELLS],
-) -> Turn {
+) -> Turn
+    requires { r.b < 8 }
+{
     let inds = 2 + many(g.here);
     let vals = 3 + many(g.here >> 32);
     let end = r.b + r.n.min(4100);
@@ -134,7 +137,7 @@ fn written(
     val: &[u32; CELLS],
     behind: &mut [u8],
 ) -> Done
-    requires { 1280 ≤ length behind.old }
+    requires { (r.b < 8) × (1280 ≤ length behind.old) }
     ensures { (result.behind ≤ 1280) × (length behind.new ≡ length behind.old) }
 {
     let ind = &ind[2..2 + many(g.here)];
@@ -160,7 +163,7 @@ fn on_two(
     others: Cells,
     behind: &mut [u8],
 ) -> Done
-    requires { 1280 ≤ length behind.old }
+    requires { (r.b < 8) × (1280 ≤ length behind.old) }
     ensures { (result.behind ≤ 1280) × (length behind.new ≡ length behind.old) }
 {
     let inds = 2 + many(g.here);
@@ -182,19 +185,12 @@ fn orderings(r: Record, g: Given, ind: &[u32; CELLS], val: &[u32; CELLS], behind
     requires { 1280 ≤ length behind.old }
     ensures { (result.behind ≤ 1280) × (length behind.new ≡ length behind.old) }
 {
-    let many = r.n.min(160);
-    for k in 0..many {
-        put_word(behind, 8 * k, pair(ind[k], val[k]));
-    }
-    Done {
-        turn: after(g.old, reply::none()),
-        behind: 8 * many,
-    }
+    of_halves(after(g.old, reply::none()), ind, val, r.n.min(160), behind)
 }
 
 // What a record leaves of set a and answers, once what it sets besides is set.
 fn called(call: Call, r: Record, a: usize, run: &mut Run, behind: &mut [u8]) -> Done
-    requires { (a < 2) × (1280 ≤ length behind.old) }
+    requires { (a < 2) × (r.b < 8) × (1280 ≤ length behind.old) }
     ensures { (result.behind ≤ 1280) × (length behind.new ≡ length behind.old) }
 {
     let g = to_call(r, a, &run.regs);
@@ -239,7 +235,7 @@ fn seen_cells(w: u64) -> usize
 
 // The answer shows set a, and tells of cursor b and of the orderings besides.
 fn finish(r: Record, a: usize, run: &Run, t: Turn) -> Turn
-    requires { a < 2 }
+    requires { (a < 2) × (r.b < 8) }
 {
     let mut left = t.left;
     let mut reply = t.reply;
@@ -250,7 +246,7 @@ fn finish(r: Record, a: usize, run: &Run, t: Turn) -> Turn
 }
 
 fn step(r: Record, run: &mut Run, behind: &mut [u8]) -> Done
-    requires { 1280 ≤ length behind.old }
+    requires { (r.b < 8) × (1280 ≤ length behind.old) }
     ensures { (result.behind ≤ 1280) × (length behind.new ≡ length behind.old) }
 {
     let call = Call::from(r.op);
@@ -279,7 +275,7 @@ pub fn probe_sparse(script: &[u8], out: &mut [u8]) -> usize
         out,
         lent::MOST,
         |r, behind|
-            requires { 1280 ≤ length behind.now }
+            requires { (r.b < 8) × (1280 ≤ length behind.now) }
             ensures { result.behind ≤ 1280 }
         { step(r, &mut run, behind) },
     )

@@ -1,12 +1,12 @@
 // Cells that calls are lent beside the orderings. A lent part starts some cells into an array; all of it, the cells before and after the part
 // among them, goes into one number, and the first of the cells go out behind the answer.
-ghost use Rattle.std.specs.Prelude.{◌≡◌, ◌≤◌, length};
+ghost use Rattle.std.specs.Prelude.{◌≡◌, ◌<◌, ◌≤◌, length};
 
 use super::seen;
+use probe_parts::behind::{of_bytes, of_values};
 use probe_parts::record::Record;
 use probe_parts::script::{Done, shown};
 use probe_parts::turn::Turn;
-use probe_parts::wire;
 
 // The most bytes that stand behind an answer.
 pub const MOST: usize = 1280;
@@ -14,7 +14,7 @@ pub const MOST: usize = 1280;
 // Lends n cells from cell b on to `call`. The number goes over the cells to 4 past the lent part.
 pub fn cells<F: FnOnce(&mut [i32]) -> Turn>(r: Record, behind: &mut [u8], call: F) -> Done
     requires any { F.IsAlwaysCallable call }
-    requires room { 1280 ≤ length behind.old }
+    requires room { (r.b < 8) × (1280 ≤ length behind.old) }
     ensures { (result.behind ≤ 1280) × (length behind.new ≡ length behind.old) }
 {
     let end = r.b + r.n.min(4100);
@@ -22,17 +22,13 @@ pub fn cells<F: FnOnce(&mut [i32]) -> Turn>(r: Record, behind: &mut [u8], call: 
     let mut turn = call(&mut cells[r.b..end]);
     turn.reply.lo = seen::values(&cells[..end + 4]);
     let many = shown(r.lo, 160);
-    wire::put_each(&cells[..many], wire::bits, behind, 0);
-    Done {
-        turn,
-        behind: 8 * many,
-    }
+    of_values(turn, &cells, many, behind)
 }
 
 // The same with bytes.
 pub fn bytes<F: FnOnce(&mut [u8]) -> Turn>(r: Record, behind: &mut [u8], call: F) -> Done
     requires any { F.IsAlwaysCallable call }
-    requires room { 1280 ≤ length behind.old }
+    requires room { (r.b < 8) × (1280 ≤ length behind.old) }
     ensures { (result.behind ≤ 1280) × (length behind.new ≡ length behind.old) }
 {
     let end = r.b + r.n.min(49600);
@@ -40,6 +36,5 @@ pub fn bytes<F: FnOnce(&mut [u8]) -> Turn>(r: Record, behind: &mut [u8], call: F
     let mut turn = call(&mut bytes[r.b..end]);
     turn.reply.lo = seen::bytes(&bytes[..end + 4]);
     let many = shown(r.lo, 1280);
-    behind[..many].copy_from_slice(&bytes[..many]);
-    Done { turn, behind: many }
+    of_bytes(turn, &bytes, many, behind)
 }

@@ -14,7 +14,7 @@ use Rattle.closing.specs.Kinds.{kind_for}
 use Rattle.sheet_sections.specs.Sections.{destination, closing, count, list, section}
 use Rattle.sheet.specs.Sheet.{end, sheet, read_sheet}
 use Rattle.wave_form.specs.Sample.{sample}
-use Rattle.wave_print.specs.Print.{bounds_text, row_text, pair_text, refused_text, said_text, line_text, rows_text, lines_text, printed}
+use Rattle.wave_print.specs.Print.{bounds_text, row_text, pair_text, refused_text, said_text_by, line_text_by, rows_text, lines_text_by, printed_by}
 use Rattle.wave.specs.Text.{wave_text}
 use Rattle.wave.proofs.Theorems.{ruled, prints-ruled}
 
@@ -63,7 +63,7 @@ unfolding sample read_sheet sheet section destination closing kind_for list coun
 reads-sample = refl
 
 rules-show : ruled sample ≡ shown
-unfolding sample new_of between_of values_of bits_of span_of val mask_of members_from members_in pass raises step1 step2 printed rows_text row_text bounds_text lines_text line_text said_text pair_text refused_text decimal.decimal decimal.natural decimal.digits
+unfolding sample new_of between_of values_of bits_of span_of val mask_of members_from members_in pass raises step1 step2 printed_by rows_text row_text bounds_text lines_text_by line_text_by said_text_by pair_text refused_text decimal.decimal decimal.natural decimal.digits
 rules-show = refl
 
 -- the program's text for 01's sheet is 01's board, byte for byte

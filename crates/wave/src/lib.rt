@@ -37,7 +37,10 @@ fn put_wave(sheet: &[u8], out: &mut [u8]) -> usize
     ensures { record { next = result; cells = out.new } ≡ put_of (wave_text sheet.now) out.old 0 }
 {
     match sheet::read_sheet(sheet) {
-        Err(stop) => wave_print::put_refusal(sheet::refusal(stop), out, 0),
+        Err(stop) => {
+            let why = sheet::refusal(stop);
+            wave_print::put_refusal(why.number(), why.place(), out, 0)
+        }
         Ok((parsed, _)) => put_ran(wave_run::run(parsed), out),
     }
 }

@@ -6,11 +6,12 @@ use Rattle.std.specs.declared.result.Result.TheVariants.{Ok, Err}
 use Rattle.rules.specs.declared.Pair.{Pair}
 use Rattle.rules.specs.declared.Refusal.{Refusal}
 use Rattle.rules.specs.declared.Refusal.TheVariants.{Unknown}
-use Rattle.wave_print.specs.Print.{bounds_text, row_text, pair_text, refused_text, said_text, line_text, rows_text, lines_text, printed}
+use Rattle.wave_print.specs.declared.Numbered.{Numbered}
+use Rattle.wave_print.specs.Print.{bounds_text, row_text, pair_text, refused_text, said_text_by, line_text_by, rows_text, lines_text_by, printed_by, printed}
 
 -- nothing registered and no lists
 nothing : printed [] [] ≡ []
-unfolding printed rows_text lines_text
+unfolding printed_by rows_text lines_text_by
 nothing = refl
 
 -- D 7 3 -2 1
@@ -47,5 +48,11 @@ example : printed board (conflict ∷ unknown ∷ [])
     ∷ 68 ∷ 32 ∷ 50 ∷ 51 ∷ 32 ∷ 49 ∷ 32 ∷ 55 ∷ 32 ∷ 55 ∷ 10
     ∷ 76 ∷ 32 ∷ 48 ∷ 32 ∷ 49 ∷ 32 ∷ 48 ∷ 10
     ∷ 76 ∷ 32 ∷ 49 ∷ 32 ∷ 82 ∷ 32 ∷ 54 ∷ 32 ∷ 49 ∷ 10 ∷ []
-unfolding printed rows_text row_text bounds_text lines_text line_text said_text pair_text refused_text decimal natural digits
+unfolding printed_by rows_text row_text bounds_text lines_text_by line_text_by said_text_by pair_text refused_text decimal natural digits
 example = refl
+
+-- L 0 R 7777 3, of a reason that is no refusal
+any-number : printed_by (λ (r : Numbered). r.number) (λ (r : Numbered). r.place) [] (Err (record { number = 7777; place = 3 }) ∷ [])
+    ≡ 76 ∷ 32 ∷ 48 ∷ 32 ∷ 82 ∷ 32 ∷ 55 ∷ 55 ∷ 55 ∷ 55 ∷ 32 ∷ 51 ∷ 10 ∷ []
+unfolding printed_by rows_text lines_text_by line_text_by said_text_by refused_text natural digits
+any-number = refl

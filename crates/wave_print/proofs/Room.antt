@@ -10,7 +10,7 @@ use Rattle.std.specs.declared.result.Result.TheVariants.{Ok, Err}
 use Rattle.rules.specs.Refusals.{number_of, place_of}
 use Rattle.rules.specs.declared.Pair.{Pair}
 use Rattle.rules.specs.declared.Refusal.{Refusal}
-use Rattle.wave_print.specs.Print.{named, spaced, lf, bounds_text, row_text, pair_text, refused_text, said_text, line_text, rows_text, lines_text, printed, most}
+use Rattle.wave_print.specs.Print.{named, spaced, lf, bounds_text, row_text, pair_text, refused_text, said_text_by, line_text_by, rows_text, lines_text_by, printed_by, printed, most}
 
 -- a destination whose numbers have at most ten digits, and its size three
 pub record Brief (r : rules.Row) : Type 0 where
@@ -18,14 +18,21 @@ pub record Brief (r : rules.Row) : Type 0 where
   pub size : length r.chutes < 10 ^ 3
   pub chutes : (x : ℤ) → T (has x r.chutes) → nat_abs x < 10 ^ 10
 
--- a refusal whose number has one digit, and its place two; of a pair nothing is asked
-pub record TerseRefusal (r : Refusal) : Type 0 where
-  pub number : number_of r < 10 ^ 1
-  pub place : place_of r < 10 ^ 2
+-- a reason whose number has one digit, and its place two; of a pair nothing is asked
+pub record TerseReason {R : Type 0} (number_in place_in : R → ℕ) (r : R) : Type 0 where
+  pub number : number_in r < 10 ^ 1
+  pub place : place_in r < 10 ^ 2
+
+abbrev pub terse_by : {R : Type 0} → (R → ℕ) → (R → ℕ) → Result Pair R → Type 0
+terse_by number place (Ok p) = Unit
+terse_by number place (Err r) = TerseReason number place r
+
+-- the same of 01's refusals
+abbrev pub TerseRefusal : Refusal → Type 0
+TerseRefusal = TerseReason number_of place_of
 
 abbrev pub Terse : Result Pair Refusal → Type 0
-Terse (Ok p) = Unit
-Terse (Err r) = TerseRefusal r
+Terse = terse_by number_of place_of
 
 -- a destination's line, and a list's
 abbrev pub longest_row : ℕ
@@ -78,26 +85,37 @@ refused-few number place n p =
       natural-few 1 place p,
     )
 
-said-few : (l : Result Pair Refusal) → Terse l → length (said_text l) ≤ 7
-unfolding said_text pair_text
-said-few (Ok p) t = omega arith
-said-few (Err r) t = refused-few (number_of r) (place_of r) t.number t.place
+module _ {R : Type 0} (number place : R → ℕ) where
+  said-few : (l : Result Pair R) → terse_by number place l → length (said_text_by number place l) ≤ 7
+  unfolding said_text_by pair_text
+  said-few (Ok p) t = omega arith
+  said-few (Err r) t = refused-few (number r) (place r) t.number t.place
 
-line-few : (index : ℕ) (l : Result Pair Refusal) → index < 10 ^ 2 → Terse l → length (line_text index l) ≤ longest_line
-unfolding line_text
-line-few index l i t = omega (arith, length-append (named 76 (natural index)) (spaced (said_text l)), natural-few 1 index i, said-few l t)
+  line-few : (index : ℕ) (l : Result Pair R) → index < 10 ^ 2 → terse_by number place l → length (line_text_by number place index l) ≤ longest_line
+  unfolding line_text_by
+  line-few index l i t = omega (arith, length-append (named 76 (natural index)) (spaced (said_text_by number place l)), natural-few 1 index i, said-few l t)
 
-lines-few : (index : ℕ) (ls : List (Result Pair Refusal)) → index + length ls ≤ 10 ^ 2 → Every Terse ls → length (lines_text index ls) ≤ longest_line * length ls
-unfolding lines_text
-lines-few index [] i h = omega arith
-lines-few index (l ∷ ls) i h =
-    omega (arith, length-append (line_text index l) (lines_text (suc index) ls), line-few index l (omega arith) h.0, lines-few (suc index) ls (omega arith) h.1)
+  lines-few : (index : ℕ) (ls : List (Result Pair R)) → index + length ls ≤ 10 ^ 2 → Every (terse_by number place) ls → length (lines_text_by number place index ls) ≤ longest_line * length ls
+  unfolding lines_text_by
+  lines-few index [] i h = omega arith
+  lines-few index (l ∷ ls) i h =
+      omega (
+        arith,
+        length-append (line_text_by number place index l) (lines_text_by number place (suc index) ls),
+        line-few index l (omega arith) h.0,
+        lines-few (suc index) ls (omega arith) h.1,
+      )
 
 -- ---- a board's text, and the line of a bad sheet
 
+pub printed-by-few : {R : Type 0} (number place : R → ℕ) (rs : rules.Rows) (ls : List (Result Pair R)) → length rs ≤ 64 → length ls ≤ 16 → Every Brief rs → Every (terse_by number place) ls
+    → length (printed_by number place rs ls) ≤ most
+unfolding printed_by
+printed-by-few number place rs ls m n h k =
+    omega (arith, length-append (rows_text rs) (lines_text_by number place 0 ls), rows_few rs h, lines-few number place 0 ls (omega arith) k)
+
 pub printed-few : (rs : rules.Rows) (ls : List (Result Pair Refusal)) → length rs ≤ 64 → length ls ≤ 16 → Every Brief rs → Every Terse ls → length (printed rs ls) ≤ most
-unfolding printed
-printed-few rs ls m n h k = omega (arith, length-append (rows_text rs) (lines_text 0 ls), rows_few rs h, lines-few 0 ls (omega arith) k)
+printed-few = printed-by-few number_of place_of
 
 pub bad-few : (place : ℕ) → place < 10 ^ 20 → length (refused_text 15 place) ≤ most
 unfolding refused_text

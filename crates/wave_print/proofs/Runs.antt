@@ -10,16 +10,15 @@ use Rattle.board.specs.Rows.{id_at}
 use Rattle.board.specs.declared.Row.{Row}
 use Rattle.std.specs.declared.result.Result.TheVariants.{Ok}
 use Rattle.rules.specs.declared.Pair.{Pair}
-use Rattle.rules.specs.declared.Refusal.{Refusal}
-use Rattle.wave_print.specs.Print.{row_text, rows_text, line_text, lines_text}
+use Rattle.wave_print.specs.Print.{row_text, rows_text, line_text_by, lines_text_by}
 use Rattle.wave_print.proofs.Pieces.{Puts}
 
--- what a list was answered
-abbrev pub Said : Type 0
-Said = Result Pair Refusal
+-- what a list was answered: the pair, or a reason
+abbrev pub Said : Type 0 → Type 0
+Said R = Result Pair R
 
 -- what lies past the end of a list of lines
-abbrev pub no_line : Said
+abbrev pub no_line : {R : Type 0} → Said R
 no_line = Ok (record { changed = false; consistent = false })
 
 -- ---- a run of texts, of which a is the first and b the rest: it is put as a whole once a is put and b goes on from there
@@ -47,17 +46,19 @@ unfolding rows_text
 rows_end rows count i h = let z : count - i ≡ 0 = omega arith in ap (λ (n : ℕ). rows_text (rows_from (id_at rows) (held_at rows) i n)) z
 
 -- ---- lists: what is left to put, of lines of which i are put
-abbrev pub lines_left : List Said → ℕ → List ℕ
-lines_left lines i = lines_text i (drop i lines)
+module _ {R : Type 0} (number place : R → ℕ) where
+  abbrev pub lines_left : List (Said R) → ℕ → List ℕ
+  lines_left lines i = lines_text_by number place i (drop i lines)
 
-pub lines_next : (lines : List Said) (i : ℕ) (d : Said) → i < length lines → lines_left lines i ≡ line_text i (get_or lines i d) ++ lines_left lines (i + 1)
-unfolding lines_text
-lines_next lines i d h =
-    ap (lines_text i) (drop-cons lines i d h) ∙ ap (λ (j : ℕ). line_text i (get_or lines i d) ++ lines_text j (drop j lines)) (sym (add-one i))
+  pub lines_next : (lines : List (Said R)) (i : ℕ) (d : Said R) → i < length lines → lines_left lines i ≡ line_text_by number place i (get_or lines i d) ++ lines_left lines (i + 1)
+  unfolding lines_text_by
+  lines_next lines i d h =
+      ap (lines_text_by number place i) (drop-cons lines i d h)
+      ∙ ap (λ (j : ℕ). line_text_by number place i (get_or lines i d) ++ lines_text_by number place j (drop j lines)) (sym (add-one i))
 
-pub lines_end : (lines : List Said) (i : ℕ) → i ≡ length lines → lines_left lines i ≡ []
-unfolding lines_text
-lines_end lines i e = ap (lines_text i) (ap (λ (j : ℕ). drop j lines) e ∙ drop-length lines)
+  pub lines_end : (lines : List (Said R)) (i : ℕ) → i ≡ length lines → lines_left lines i ≡ []
+  unfolding lines_text_by
+  lines_end lines i e = ap (lines_text_by number place i) (ap (λ (j : ℕ). drop j lines) e ∙ drop-length lines)
 
 -- ---- nothing is left: what was put is the whole
 pub put_all : (l : List ℕ) (at : ℕ) {t : List ℕ} → t ≡ [] → record { next = at; cells = l } ≡ put_of t l at

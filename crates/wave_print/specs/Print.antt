@@ -38,27 +38,41 @@ bit_text y = cond y 49 48
 unfoldable pub pair_text : Bool → Bool → List ℕ
 pair_text changed consistent = bit_text changed ∷ 32 ∷ bit_text consistent ∷ 10 ∷ []
 
--- what a list was answered: the pair, or a refusal
-unfoldable pub said_text : Result Pair Refusal → List ℕ
-said_text (Ok p) = pair_text p.changed p.consistent
-said_text (Err r) = refused_text (number_of r) (place_of r)
+-- what a list was answered: the pair, or a reason, of which a number and a place are told
+unfoldable pub said_text_by : {R : Type 0} → (R → ℕ) → (R → ℕ) → Result Pair R → List ℕ
+said_text_by number place (Ok p) = pair_text p.changed p.consistent
+said_text_by number place (Err r) = refused_text (number r) (place r)
 
 -- `L index changed consistent`, or `L index R number place`
-unfoldable pub line_text : ℕ → Result Pair Refusal → List ℕ
-line_text index l = named 76 (natural index) ++ spaced (said_text l)
+unfoldable pub line_text_by : {R : Type 0} → (R → ℕ) → (R → ℕ) → ℕ → Result Pair R → List ℕ
+line_text_by number place index l = named 76 (natural index) ++ spaced (said_text_by number place l)
 
 unfoldable pub rows_text : rules.Rows → List ℕ
 rows_text [] = []
 rows_text (r ∷ rs) = row_text r.id r.chutes ++ rows_text rs
 
 -- the lines from an index on
-unfoldable pub lines_text : ℕ → List (Result Pair Refusal) → List ℕ
-lines_text index [] = []
-lines_text index (l ∷ ls) = line_text index l ++ lines_text (suc index) ls
+unfoldable pub lines_text_by : {R : Type 0} → (R → ℕ) → (R → ℕ) → ℕ → List (Result Pair R) → List ℕ
+lines_text_by number place index [] = []
+lines_text_by number place index (l ∷ ls) = line_text_by number place index l ++ lines_text_by number place (suc index) ls
 
 -- the destinations in order of first registration, then the lists in order
-unfoldable pub printed : rules.Rows → List (Result Pair Refusal) → List ℕ
-printed rs ls = rows_text rs ++ lines_text 0 ls
+unfoldable pub printed_by : {R : Type 0} → (R → ℕ) → (R → ℕ) → rules.Rows → List (Result Pair R) → List ℕ
+printed_by number place rs ls = rows_text rs ++ lines_text_by number place 0 ls
+
+-- ---- the same of 01's refusals, by their numbers and places
+
+abbrev pub said_text : Result Pair Refusal → List ℕ
+said_text = said_text_by number_of place_of
+
+abbrev pub line_text : ℕ → Result Pair Refusal → List ℕ
+line_text = line_text_by number_of place_of
+
+abbrev pub lines_text : ℕ → List (Result Pair Refusal) → List ℕ
+lines_text = lines_text_by number_of place_of
+
+abbrev pub printed : rules.Rows → List (Result Pair Refusal) → List ℕ
+printed = printed_by number_of place_of
 
 -- how long a board's text can be: 64 lines of at most 41 bytes, and 16 of at most 12
 abbrev pub most : ℕ

@@ -2,20 +2,69 @@
 //
 // put_board, put_refusal
 //
+// A list was refused for a Reason, which has a number and a place: a Refusal of 01's table, or a Numbered of any two.
 // The bytes must have room: no board's text is longer than `most` of specs/Print, which is `wave::MOST`.
 #![tactic(auto)]
 
-ghost use Rattle.std.specs.Prelude.{◌≡◌, ◌+◌, ◌≤◌, ◌<◌, length};
+ghost use Rattle.std.specs.Prelude.{◌≡◌, ◌+◌, ◌≤◌, ◌<◌, ℕ, length};
 ghost use Rattle.board.specs.View.{rows_of, held_at};
 ghost use Rattle.decimal.specs.Decimal.{natural, decimal};
 ghost use Rattle.decimal.specs.Put.{put_of};
 ghost use Rattle.domain.specs.Set.{values_of, set_of};
 ghost use Rattle.rules.specs.Refusals.{number_of, place_of};
-ghost use Rattle.wave_print.specs.Print.{named, spaced, bounds_text, row_text, refused_text, pair_text, bit_text, line_text, rows_text, lines_text, printed};
+ghost use Rattle.wave_print.specs.Print.{named, spaced, bounds_text, row_text, refused_text, pair_text, bit_text, line_text_by, rows_text, lines_text_by, printed_by};
 
 use board::Row;
 use mask::Mask;
 use rules::{Pair, Refusal};
+
+// Why a list was refused: a number and a place.
+pub trait Reason: Copy {
+    ghost number: { Self → ℕ };
+
+    ghost place: { Self → ℕ };
+
+    fn number(self) -> u32
+        ensures { result ≡ number self };
+
+    fn place(self) -> usize
+        ensures { result ≡ place self };
+}
+
+impl Reason for Refusal {
+    ghost number = { number_of };
+
+    ghost place = { place_of };
+
+    fn number(self) -> u32 {
+        Refusal::number(self)
+    }
+
+    fn place(self) -> usize {
+        Refusal::place(self)
+    }
+}
+
+// Any number and any place, one that 01's table lacks too.
+#[derive(Clone, Copy, Debug, PartialEq, Eq)]
+pub struct Numbered {
+    pub number: u32,
+    pub place: usize,
+}
+
+impl Reason for Numbered {
+    ghost number = { λ r. r.number };
+
+    ghost place = { λ r. r.place };
+
+    fn number(self) -> u32 {
+        self.number
+    }
+
+    fn place(self) -> usize {
+        self.place
+    }
+}
 
 // A space and a number.
 fn put_spaced(n: u64, out: &mut [u8], at: usize) -> usize
@@ -75,12 +124,12 @@ fn put_row(row: Row, out: &mut [u8], at: usize) -> usize
 }
 
 // The line of a refusal.
-pub fn put_refusal(why: Refusal, out: &mut [u8], at: usize) -> usize
-    requires { at + length (refused_text (number_of why) (place_of why)) ≤ length out.old }
-    ensures { record { next = result; cells = out.new } ≡ put_of (refused_text (number_of why) (place_of why)) out.old at }
+pub fn put_refusal(number: u32, place: usize, out: &mut [u8], at: usize) -> usize
+    requires { at + length (refused_text number place) ≤ length out.old }
+    ensures { record { next = result; cells = out.new } ≡ put_of (refused_text number place) out.old at }
 {
-    let named = put_named(b'R', u64::from(why.number()), out, at);
-    let end = put_spaced(why.place() as u64, out, named);
+    let named = put_named(b'R', u64::from(number), out, at);
+    let end = put_spaced(place as u64, out, named);
     out[end] = b'\n';
     end + 1
 }
@@ -103,15 +152,15 @@ fn put_pair(pair: Pair, out: &mut [u8], at: usize) -> usize
 }
 
 // A list's line.
-fn put_line(index: usize, l: Result<Pair, Refusal>, out: &mut [u8], at: usize) -> usize
-    requires { at + length (line_text index l) ≤ length out.old }
-    ensures { record { next = result; cells = out.new } ≡ put_of (line_text index l) out.old at }
+fn put_line<R: Reason>(index: usize, l: Result<Pair, R>, out: &mut [u8], at: usize) -> usize
+    requires { at + length (line_text_by R.number R.place index l) ≤ length out.old }
+    ensures { record { next = result; cells = out.new } ≡ put_of (line_text_by R.number R.place index l) out.old at }
 {
     let named = put_named(b'L', index as u64, out, at);
     out[named] = b' ';
     match l {
         Ok(pair) => put_pair(pair, out, named + 1),
-        Err(why) => put_refusal(why, out, named + 1),
+        Err(why) => put_refusal(why.number(), why.place(), out, named + 1),
     }
 }
 
@@ -128,9 +177,9 @@ fn put_rows(rows: &[Row], out: &mut [u8]) -> usize
 }
 
 // The lists' lines from `start` on.
-fn put_lines(lines: &[Result<Pair, Refusal>], out: &mut [u8], start: usize) -> usize
-    requires { start + length (lines_text 0 lines.now) ≤ length out.old }
-    ensures { record { next = result; cells = out.new } ≡ put_of (lines_text 0 lines.now) out.old start }
+fn put_lines<R: Reason>(lines: &[Result<Pair, R>], out: &mut [u8], start: usize) -> usize
+    requires { start + length (lines_text_by R.number R.place 0 lines.now) ≤ length out.old }
+    ensures { record { next = result; cells = out.new } ≡ put_of (lines_text_by R.number R.place 0 lines.now) out.old start }
 {
     let mut at = start;
     for (i, line) in lines.iter().enumerate() {
@@ -140,9 +189,9 @@ fn put_lines(lines: &[Result<Pair, Refusal>], out: &mut [u8], start: usize) -> u
 }
 
 // The board's text at the start, and how long it is.
-pub fn put_board(rows: &[Row], lines: &[Result<Pair, Refusal>], out: &mut [u8]) -> usize
-    requires { length (printed (rows_of rows.now (length rows.now) (held_at rows.now)) lines.now) ≤ length out.old }
-    ensures { record { next = result; cells = out.new } ≡ put_of (printed (rows_of rows.now (length rows.now) (held_at rows.now)) lines.now) out.old 0 }
+pub fn put_board<R: Reason>(rows: &[Row], lines: &[Result<Pair, R>], out: &mut [u8]) -> usize
+    requires { length (printed_by R.number R.place (rows_of rows.now (length rows.now) (held_at rows.now)) lines.now) ≤ length out.old }
+    ensures { record { next = result; cells = out.new } ≡ put_of (printed_by R.number R.place (rows_of rows.now (length rows.now) (held_at rows.now)) lines.now) out.old 0 }
 {
     let at = put_rows(rows, out);
     put_lines(lines, out, at)

@@ -1,7 +1,7 @@
 -- `wave::put_wave` meets its contract: what was read is told, a bad sheet by its refusal, a good one by what its run comes to.
 use Rattle.std.specs.Prelude.{◌≡◌, List, ℕ, ◌≤◌, length}
 use Rattle.std.specs.declared.result.Result.TheVariants.{Ok, Err}
-use Rattle.std.proofs.Common.{sym, ap, ◌∙◌, subst, arith}
+use Rattle.std.proofs.Common.{sym, ap, ap₂, ◌∙◌, subst, arith}
 use Rattle.decimal.specs.Put.{put_of}
 use Rattle.rules.specs.Refusals.{number_of, place_of}
 use Rattle.rules.specs.declared.Refusal.{Refusal}
@@ -21,9 +21,9 @@ use Rattle.wave.proofs.Theorems.{text-few, ran-text, ran-fits}
 use Rattle.wave.proofs.put_wave.Goals as goal
 
 -- a bad sheet
-bad : (s : List ℕ) (x : Stop) → Err x ≡ read_of (read_sheet s) → {r : Refusal} → r ≡ refusal_of x.fault x.at → refused_text (number_of r) (place_of r) ≡ wave_text s
+bad : (s : List ℕ) (x : Stop) → Err x ≡ read_of (read_sheet s) → {r : Refusal} → r ≡ refusal_of x.fault x.at → {n p : ℕ} → n ≡ number_of r → p ≡ place_of r → refused_text n p ≡ wave_text s
 unfolding wave_text told_of
-bad s x q e = ap (λ (r : Refusal). refused_text (number_of r) (place_of r)) e ∙ sym (ap told_of (stopped parsed_of (read_sheet s) x q))
+bad s x q e f g = ap₂ refused_text f g ∙ ap (λ (r : Refusal). refused_text (number_of r) (place_of r)) e ∙ sym (ap told_of (stopped parsed_of (read_sheet s) x q))
 
 -- a good one: the run's text, and that its counts are within limits
 record Runs (r : Ran) (s : List ℕ) : Type 0 where
@@ -47,12 +47,12 @@ runs s p e q {r} h =
 pub put_refusal-requires : goal.put_refusal-requires
 put_refusal-requires c =
     let s = c.args.sheet.now in
-    omega (arith, c.requires, text-few s, ap length (bad s c.in-Err.stop c.in-Err.ensures c.refusal.ensures))
+    omega (arith, c.requires, text-few s, ap length (bad s c.in-Err.stop c.in-Err.ensures c.refusal-why.ensures c.number.ensures c.place.ensures))
 
 pub returns-in-Err : goal.returns-in-Err
 returns-in-Err c =
     let s = c.args.sheet.now in
-    c.put_refusal.ensures ∙ ap (λ (t : List ℕ). put_of t c.args.out.now 0) (bad s c.in-Err.stop c.in-Err.ensures c.refusal.ensures)
+    c.put_refusal.ensures ∙ ap (λ (t : List ℕ). put_of t c.args.out.now 0) (bad s c.in-Err.stop c.in-Err.ensures c.refusal-why.ensures c.number.ensures c.place.ensures)
 
 pub put_ran-requires : goal.put_ran-requires
 put_ran-requires c =

@@ -1,17 +1,7 @@
--- `pirozhkan::inner::settle` meets its contract: words that pass the first test are read, and what the call hands back is written and told.
--- Assumes nothing.
-use Rattle.std.specs.Prelude.{ℕ}
-use Rattle.std.proofs.Common.{sym, ap, ◌∙◌}
-use Rattle.reply.specs.Through.{left, settled}
-use Rattle.reply.proofs.ThroughLaws.{through-refused, through-passed}
+-- `pirozhkan::inner::settle` meets its contract: the board is written, and the answer told. Assumes nothing.
+use Rattle.reply.specs.Through.{left}
 use Rattle.pirozhkan.proofs.inner.settle.Goals as goal
 
-pub returns-in-Err : goal.returns-in-Err
-returns-in-Err g c =
-    λ f guarded is. let w = c.args.ws.now in ap (λ (n : ℕ). left n w) c.refusal.ensures ∙ through-refused f w c.in-Err.why (sym c.in-Err.ensures.0)
-
-pub returns-in-Ok : goal.returns-in-Ok
-returns-in-Ok g c =
-    λ f guarded is.
-    (λ t. left (c.outcome.ensures t) (c.write.ensures t))
-    ∙ through-passed f c.args.ws.now guarded c.in-Ok.ensures.1 (sym c.in-Ok.ensures.0) (settled c.call-after.result) (is c.read.result c.call-after.result c.read.ensures c.call-after.ensures ∙ ap f c.read.ensures)
+pub returns : goal.returns
+returns c =
+    λ t. left (c.outcome.ensures t) (c.write.ensures t)

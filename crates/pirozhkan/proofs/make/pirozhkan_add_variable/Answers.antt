@@ -5,4 +5,4 @@ use Rattle.pirozhkan.proofs.Guards.{ranging-guarded}
 use Rattle.pirozhkan.proofs.make.pirozhkan_add_variable.Goals as goal
 
 pub returns : goal.returns
-returns c = c.settle.ensures (ranging c.args.id c.args.min c.args.max) (ranging-guarded c.args.id c.args.min c.args.max) (λ b s e p. search rules)
+returns c = c.change.ensures (ranging c.args.id c.args.min c.args.max) (ranging-guarded c.args.id c.args.min c.args.max) (λ b s e p. search rules)

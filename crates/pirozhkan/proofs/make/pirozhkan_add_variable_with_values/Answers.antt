@@ -5,4 +5,4 @@ use Rattle.pirozhkan.proofs.Guards.{listing-guarded}
 use Rattle.pirozhkan.proofs.make.pirozhkan_add_variable_with_values.Goals as goal
 
 pub returns : goal.returns
-returns c = c.settle.ensures (listing c.args.id c.args.values.now) (listing-guarded c.args.id c.args.values.now) (λ b s e p. search rules)
+returns c = c.change.ensures (listing c.args.id c.args.values.now) (listing-guarded c.args.id c.args.values.now) (λ b s e p. search rules)

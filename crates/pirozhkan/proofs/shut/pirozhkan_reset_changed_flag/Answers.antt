@@ -5,4 +5,4 @@ use Rattle.pirozhkan.proofs.Guards.{resetting-guarded}
 use Rattle.pirozhkan.proofs.shut.pirozhkan_reset_changed_flag.Goals as goal
 
 pub returns : goal.returns
-returns c = c.settle.ensures resetting resetting-guarded (λ b s e p. search rules)
+returns c = c.change.ensures resetting resetting-guarded (λ b s e p. search rules)

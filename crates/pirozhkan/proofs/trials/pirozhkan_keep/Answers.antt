@@ -5,4 +5,4 @@ use Rattle.pirozhkan.proofs.Guards.{keeping-guarded}
 use Rattle.pirozhkan.proofs.trials.pirozhkan_keep.Goals as goal
 
 pub returns : goal.returns
-returns c = c.settle.ensures keeping keeping-guarded (λ b s e p. search rules)
+returns c = c.change.ensures keeping keeping-guarded (λ b s e p. search rules)

@@ -5,4 +5,4 @@ use Rattle.pirozhkan.proofs.Guards.{marking-guarded}
 use Rattle.pirozhkan.proofs.trials.pirozhkan_mark.Goals as goal
 
 pub returns : goal.returns
-returns c = c.settle.ensures marking marking-guarded (λ b s e p. search rules)
+returns c = c.change.ensures marking marking-guarded (λ b s e p. search rules)

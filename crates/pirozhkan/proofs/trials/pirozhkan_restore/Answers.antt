@@ -5,4 +5,4 @@ use Rattle.pirozhkan.proofs.Guards.{restoring-guarded}
 use Rattle.pirozhkan.proofs.trials.pirozhkan_restore.Goals as goal
 
 pub returns : goal.returns
-returns c = c.settle.ensures restoring restoring-guarded (λ b s e p. search rules)
+returns c = c.change.ensures restoring restoring-guarded (λ b s e p. search rules)

@@ -1,0 +1,2 @@
+-- Nothing of `board_in_place::remove_below` is left to answer: it is proved as it stands. `Instance` proves it again, as an instance of `in_place`'s law.
+mod Instance
