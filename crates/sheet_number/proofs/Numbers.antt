@@ -1,8 +1,8 @@
 -- A number at a place: the cases of `number_at`, from what a whole run writes. Assumes nothing.
-use Rattle.std.specs.Prelude.{ℕ, ◌^◌, ◌≤◌, ◌<◌, ◌≡◌, refl, List, Bool, true, false, cond, ◌&&◌, ltb, length, drop, ℤ, pos, negsuc, Result}
+use Rattle.std.specs.Prelude.{ℕ, ◌^◌, ◌≤◌, ◌<◌, ◌≡◌, ◌⊎◌, refl, List, Bool, true, false, cond, ◌&&◌, ltb, length, drop, ℤ, pos, negsuc, Result}
 use Rattle.std.specs.Int.Signed.{mag, le_z}
 use Rattle.std.specs.Int.{w64}
-use Rattle.std.proofs.Common.{ap, ap₂, sym, ◌∙◌, subst, arith, ltb-true, ltb-false, le-leb, SFits, to_z, of_z}
+use Rattle.std.proofs.Common.{ap, ap₂, sym, ◌∙◌, subst, inl, inr, arith, ltb-true, ltb-false, le-leb, SFits, to_z, of_z}
 use Rattle.std.proofs.Math.Option.{Option, some, none}
 use Rattle.std.proofs.lemmas.Bool.{lt-leb}
 use Rattle.std.proofs.lemmas.Int.{to_z-of_z}
@@ -25,6 +25,24 @@ within-is none d z e q = let x : ◌≡◌ {A = ℕ} 0 1 = cc in absurd (omega a
 within-is (some y) d z e q =
     let k = is-by (ltb (mag y) (2 ^ 63)) y z d e (ltb-true (mag y) (2 ^ 63)) q in
     (ap (λ (x : ℤ). some x) k.0, subst (λ (x : ℤ). SFits w64 x) k.0 (record { sfits = k.1 }), k.2)
+
+-- where something is written, a fault says that no i64 holds it
+bad-by : (t : Bool) (z : ℤ) (e : ℕ) (k : Fault) → ◌≡◌ {A = Result (ℤ × ℕ) Fault} (Err k) (cond t (Ok (z, e)) (Err OutOfRange)) → (t ≡ false) × (k ≡ OutOfRange)
+bad-by true z e k q = let x : ◌≡◌ {A = ℕ} 0 1 = cc in absurd (omega arith)
+bad-by false z e k q = (refl, cc)
+
+-- the two faults, of any number: nothing is written, or one that no i64 holds
+pub within-ill : (o : Option ℤ) (e : ℕ) → ◌≡◌ {A = Result (ℤ × ℕ) Fault} (Err IllWritten) (within o e) → o ≡ none
+within-ill none e q = refl
+within-ill (some z) e q = let k = (bad-by (ltb (mag z) (2 ^ 63)) z e IllWritten q).1 in let x : ◌≡◌ {A = ℕ} 0 1 = cc in absurd (omega arith)
+
+pub within-huge : (o : Option ℤ) (e : ℕ) → ◌≡◌ {A = Result (ℤ × ℕ) Fault} (Err OutOfRange) (within o e) → (z : ℤ) × (o ≡ some z) × (2 ^ 63 ≤ mag z)
+within-huge none e q = let x : ◌≡◌ {A = ℕ} 0 1 = cc in absurd (omega arith)
+within-huge (some z) e q = (z, refl, ltb-false (mag z) (2 ^ 63) (bad-by (ltb (mag z) (2 ^ 63)) z e OutOfRange q).0)
+
+within-fault : (o : Option ℤ) (e : ℕ) (k : Fault) → Err k ≡ within o e → (k ≡ IllWritten) ⊎ (k ≡ OutOfRange)
+within-fault none e k q = inl (cc)
+within-fault (some z) e k q = inr (bad-by (ltb (mag z) (2 ^ 63)) z e k q).1
 
 -- ---- a number that no i64 holds is out of every range
 
@@ -66,20 +84,13 @@ module _ (s : List ℕ) (at : ℕ) (low high : ℤ) where
   -- the fault of a run is that of the number
   pub number-fault : at < length s → SFits w64 low → SFits w64 high → (k : Fault) (e : ℕ) → Err k ≡ within (written (run (drop at s))) e
       → fault k at ≡ number_at s at low high
-  number-fault h p q k e w = by (written (run (drop at s))) refl w
+  number-fault h p q k e w = by (within-fault (written (run (drop at s))) e k w)
     where
-      big : (z : ℤ) (t : Bool) → written (run (drop at s)) ≡ some z → (t ≡ false → 2 ^ 63 ≤ mag z) → ◌≡◌ {A = Result (ℤ × ℕ) Fault} (Err k) (cond t (Ok (z, e)) (Err OutOfRange))
-          → fault k at ≡ number_at s at low high
-      big z true r m x = let y : ◌≡◌ {A = ℕ} 0 1 = cc in absurd (omega arith)
-      big z false r m x =
-          let j : k ≡ OutOfRange = cc in
-          ap (λ (i : Fault). fault i at) j ∙ number-out z h r (huge-out low high z p q (m refl))
-
-      by : (o : Option ℤ) → written (run (drop at s)) ≡ o → Err k ≡ within o e → fault k at ≡ number_at s at low high
-      by none r x =
-          let j : k ≡ IllWritten = cc in
-          ap (λ (i : Fault). fault i at) j ∙ number-ill h r
-      by (some z) r x = big z (ltb (mag z) (2 ^ 63)) r (ltb-false (mag z) (2 ^ 63)) x
+      by : (k ≡ IllWritten) ⊎ (k ≡ OutOfRange) → fault k at ≡ number_at s at low high
+      by (inl j) = ap (λ (i : Fault). fault i at) j ∙ number-ill h (within-ill (written (run (drop at s))) e (ap (λ (i : Fault). Err i) (sym j) ∙ w))
+      by (inr j) =
+          let m = within-huge (written (run (drop at s))) e (ap (λ (i : Fault). Err i) (sym j) ∙ w) in
+          ap (λ (i : Fault). fault i at) j ∙ number-out m.0 h m.1 (huge-out low high m.0 p q m.2)
 
 -- a test of two i64 is made on their bits
 pub le-bits : (a b : ℤ) (t : Bool) → SFits w64 a → SFits w64 b → le_z (to_z w64 (of_z w64 a)) (to_z w64 (of_z w64 b)) ≡ t → le_z a b ≡ t
