@@ -18,26 +18,26 @@ is-by : (t : Bool) (y z : ℤ) (d e : ℕ) → (t ≡ true → mag y < 2 ^ 63) �
 is-by true y z d e k q =
     let h : (y, d) ≡ (z, e) = cc in
     (ap (λ (p : ℤ × ℕ). p.0) h, k refl, ap (λ (p : ℤ × ℕ). p.1) (sym h))
-is-by false y z d e k q = let x : ◌≡◌ {A = ℕ} 0 1 = cc in absurd (omega arith)
+is-by false y z d e k q = absurd (cc)
 
 pub within-is : (o : Option ℤ) (d : ℕ) (z : ℤ) (e : ℕ) → ◌≡◌ {A = Result (ℤ × ℕ) Fault} (Ok (z, e)) (within o d) → (o ≡ some z) × SFits w64 z × (e ≡ d)
-within-is none d z e q = let x : ◌≡◌ {A = ℕ} 0 1 = cc in absurd (omega arith)
+within-is none d z e q = absurd (cc)
 within-is (some y) d z e q =
     let k = is-by (ltb (mag y) (2 ^ 63)) y z d e (ltb-true (mag y) (2 ^ 63)) q in
     (ap (λ (x : ℤ). some x) k.0, subst (λ (x : ℤ). SFits w64 x) k.0 (record { sfits = k.1 }), k.2)
 
 -- where something is written, a fault says that no i64 holds it
 bad-by : (t : Bool) (z : ℤ) (e : ℕ) (k : Fault) → ◌≡◌ {A = Result (ℤ × ℕ) Fault} (Err k) (cond t (Ok (z, e)) (Err OutOfRange)) → (t ≡ false) × (k ≡ OutOfRange)
-bad-by true z e k q = let x : ◌≡◌ {A = ℕ} 0 1 = cc in absurd (omega arith)
+bad-by true z e k q = absurd (cc)
 bad-by false z e k q = (refl, cc)
 
 -- the two faults, of any number: nothing is written, or one that no i64 holds
 pub within-ill : (o : Option ℤ) (e : ℕ) → ◌≡◌ {A = Result (ℤ × ℕ) Fault} (Err IllWritten) (within o e) → o ≡ none
 within-ill none e q = refl
-within-ill (some z) e q = let k = (bad-by (ltb (mag z) (2 ^ 63)) z e IllWritten q).1 in let x : ◌≡◌ {A = ℕ} 0 1 = cc in absurd (omega arith)
+within-ill (some z) e q = let k = (bad-by (ltb (mag z) (2 ^ 63)) z e IllWritten q).1 in absurd (cc)
 
 pub within-huge : (o : Option ℤ) (e : ℕ) → ◌≡◌ {A = Result (ℤ × ℕ) Fault} (Err OutOfRange) (within o e) → (z : ℤ) × (o ≡ some z) × (2 ^ 63 ≤ mag z)
-within-huge none e q = let x : ◌≡◌ {A = ℕ} 0 1 = cc in absurd (omega arith)
+within-huge none e q = absurd (cc)
 within-huge (some z) e q = (z, refl, ltb-false (mag z) (2 ^ 63) (bad-by (ltb (mag z) (2 ^ 63)) z e OutOfRange q).0)
 
 within-fault : (o : Option ℤ) (e : ℕ) (k : Fault) → Err k ≡ within o e → (k ≡ IllWritten) ⊎ (k ≡ OutOfRange)
